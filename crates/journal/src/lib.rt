@@ -1,0 +1,30 @@
+// The journal of slots: entries of sixteen bytes in blocks of 512.
+mod blocks;
+mod entries;
+mod fields;
+mod sums;
+mod text;
+
+pub use blocks::BLOCK_BYTES;
+pub use blocks::Heading;
+pub use blocks::HeadingDebug;
+pub use blocks::HeadingPartialEq;
+pub use blocks::PLACES;
+pub use blocks::read;
+pub use blocks::write;
+pub use entries::Access;
+pub use entries::AccessDebug;
+pub use entries::AccessPartialEq;
+pub use entries::Entry;
+pub use entries::EntryDebug;
+pub use entries::EntryPartialEq;
+pub use entries::Event;
+pub use entries::EventDebug;
+pub use entries::EventPartialEq;
+pub use entries::Outcome;
+pub use entries::OutcomeDebug;
+pub use entries::OutcomePartialEq;
+pub use text::AccessDisplay;
+pub use text::EntryDisplay;
+pub use text::EventDisplay;
+pub use text::OutcomeDisplay;
