@@ -1,4 +1,6 @@
 // Admission: the exact verdict on a setup of the imaging link.
+#![tactic(auto)]
+
 ghost use Rattle.decline.specs.Refusals.{by_numbers};
 ghost use Rattle.admission.specs.Plan.{plan_of};
 ghost use Rattle.admission.specs.Verdict.{IsVerdict};

@@ -1,4 +1,6 @@
 // Tests of admission: every rule at its edge and one past it, and which refusal comes first where several rules do not hold.
+#![tactic(auto)]
+
 #[cfg(test)]
 mod demand;
 #[cfg(test)]

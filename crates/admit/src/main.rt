@@ -1,4 +1,6 @@
 // Prints the verdicts on setup A, on variants of it, and on guests that have no task.
+#![tactic(auto)]
+
 mod samples;
 mod verdicts;
 

@@ -1,4 +1,6 @@
 // The refusals of the product: one enum, and the three numbers and the sentence of each refusal.
+#![tactic(auto)]
+
 ghost use Rattle.std.specs.Prelude.{◌≡◌, Some};
 ghost use Rattle.decline.specs.Refusals.{numbers_of, part_number, part_text, refusal_text, sentence_text, SaysWhichRefusal};
 

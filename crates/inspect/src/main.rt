@@ -1,4 +1,6 @@
 // Prints a journal that comes on standard input.
+#![tactic(auto)]
+
 mod listing;
 mod report;
 mod tally;

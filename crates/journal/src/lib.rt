@@ -1,4 +1,6 @@
 // The journal of slots: entries of sixteen bytes in blocks of 512.
+#![tactic(auto)]
+
 mod blocks;
 mod entries;
 mod fields;

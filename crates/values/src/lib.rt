@@ -1,4 +1,6 @@
 // The worked values of the product, proved as one table.
+#![tactic(auto)]
+
 ghost use Rattle.std.specs.Prelude.{◌≡◌, length};
 ghost use Rattle.values.specs.Table.{AllHold, table};
 
