@@ -9,39 +9,39 @@ pub loop-i-init : goal.loop-i-init
 loop-i-init c =
     (start_none c.args.guests.now, operation_start_none c.args.guests.now c.args.tasks.now, λ k q h. absurd (omega arith))
 
-pub overflow-add-next-task : goal.overflow-add-next-task
-overflow-add-next-task c = omega (arith, (part c.args.guests.now c.args.tasks.now c.loop-i.i c.loop-i.task c.requires.agreeing c.loop-i-test.true c.loop-i.invariant.0).within)
+pub overflow_add-next_task : goal.overflow_add-next_task
+overflow_add-next_task c = omega (arith, (part c.args.guests.now c.args.tasks.now c.loop-i.i c.loop-i.task c.requires.agreeing c.loop-i-test.true c.loop-i.invariant.0).within)
 
-pub cost-between-requires : goal.cost-between-requires
-cost-between-requires c =
+pub cost_between-requires : goal.cost_between-requires
+cost_between-requires c =
     let p = part c.args.guests.now c.args.tasks.now c.loop-i.i c.loop-i.task c.requires.agreeing c.loop-i-test.true c.loop-i.invariant.0 in
     (omega arith, (p.within, omega (arith, p.within, tasks_within c.args.guests.now c.args.tasks.now c.requires.agreeing)))
 
-pub overflow-add-to : goal.overflow-add-to
-overflow-add-to c =
+pub overflow_add-to : goal.overflow_add-to
+overflow_add-to c =
     omega (
       arith,
       c.requires.costs,
-      (operations_end c.args.guests.now c.args.tasks.now c.loop-i.i c.loop-i.task c.loop-i.from c.cost-between.result c.requires.agreeing c.loop-i-test.true c.loop-i.invariant.0 c.loop-i.invariant.1 c.cost-between.ensures).1,
+      (operations_end c.args.guests.now c.args.tasks.now c.loop-i.i c.loop-i.task c.loop-i.from c.cost_between.result c.requires.agreeing c.loop-i-test.true c.loop-i.invariant.0 c.loop-i.invariant.1 c.cost_between.ensures).1,
     )
 
-pub first-outside-requires : goal.first-outside-requires
-first-outside-requires c = (
+pub first_outside-requires : goal.first_outside-requires
+first_outside-requires c = (
   omega arith,
   omega (
     arith,
     c.requires.costs,
-    (operations_end c.args.guests.now c.args.tasks.now c.loop-i.i c.loop-i.task c.loop-i.from c.cost-between.result c.requires.agreeing c.loop-i-test.true c.loop-i.invariant.0 c.loop-i.invariant.1 c.cost-between.ensures).1,
+    (operations_end c.args.guests.now c.args.tasks.now c.loop-i.i c.loop-i.task c.loop-i.from c.cost_between.result c.requires.agreeing c.loop-i-test.true c.loop-i.invariant.0 c.loop-i.invariant.1 c.cost_between.ensures).1,
   ),
 )
 
-pub overflow-add-result-in-Some : goal.overflow-add-result-in-Some
-overflow-add-result-in-Some c =
+pub overflow_add-result-in-Some : goal.overflow_add-result-in-Some
+overflow_add-result-in-Some c =
     omega (
       arith,
       c.in-Some.ensures,
       c.requires.costs,
-      (operations_end c.args.guests.now c.args.tasks.now c.loop-i.i c.loop-i.task c.loop-i.from c.cost-between.result c.requires.agreeing c.loop-i-test.true c.loop-i.invariant.0 c.loop-i.invariant.1 c.cost-between.ensures).1,
+      (operations_end c.args.guests.now c.args.tasks.now c.loop-i.i c.loop-i.task c.loop-i.from c.cost_between.result c.requires.agreeing c.loop-i-test.true c.loop-i.invariant.0 c.loop-i.invariant.1 c.cost_between.ensures).1,
     )
 
 pub returns-in-Some : goal.returns-in-Some
@@ -51,7 +51,7 @@ returns-in-Some c =
     let i = c.loop-i.i in
     let q = c.in-Some.q in
     let found = c.in-Some.ensures in
-    let e = operations_end c.args.guests.now c.args.tasks.now c.loop-i.i c.loop-i.task c.loop-i.from c.cost-between.result c.requires.agreeing c.loop-i-test.true c.loop-i.invariant.0 c.loop-i.invariant.1 c.cost-between.ensures in
+    let e = operations_end c.args.guests.now c.args.tasks.now c.loop-i.i c.loop-i.task c.loop-i.from c.cost_between.result c.requires.agreeing c.loop-i-test.true c.loop-i.invariant.0 c.loop-i.invariant.1 c.cost_between.ensures in
     let here : Owns start i q = (omega (arith, found.0, c.loop-i.invariant.1), omega (arith, found.1, e.0)) in (
       i,
       q,
@@ -78,7 +78,7 @@ loop-i-preserved c =
     let start = operation_start gs ks in
     let i = c.loop-i.i in
     let p = part gs ks i c.loop-i.task c.requires.agreeing c.loop-i-test.true c.loop-i.invariant.0 in
-    let e = operations_end c.args.guests.now c.args.tasks.now c.loop-i.i c.loop-i.task c.loop-i.from c.cost-between.result c.requires.agreeing c.loop-i-test.true c.loop-i.invariant.0 c.loop-i.invariant.1 c.cost-between.ensures in (
+    let e = operations_end c.args.guests.now c.args.tasks.now c.loop-i.i c.loop-i.task c.loop-i.from c.cost_between.result c.requires.agreeing c.loop-i-test.true c.loop-i.invariant.0 c.loop-i.invariant.1 c.cost_between.ensures in (
       p.next,
       e.0,
       λ k q lt share.
@@ -87,6 +87,6 @@ loop-i-preserved c =
             | no b ↦
                 (let same : i ≡ k = omega (arith, b) in
                 subst (λ n. InsideAt gs c.args.operations.now n q) same
-                (c.in-default.ensures q (omega (arith, share.0, ap start same, c.loop-i.invariant.1)) (omega (arith, share.1, ap (λ n. start (n + 1)) same, e.0))))
+                (c.in_default.ensures q (omega (arith, share.0, ap start same, c.loop-i.invariant.1)) (omega (arith, share.1, ap (λ n. start (n + 1)) same, e.0))))
           ],
     )

@@ -11,11 +11,11 @@ use Rattle.admission.proofs.limits.check_tasks.Goals as goal
 pub loop-i-init : goal.loop-i-init
 loop-i-init c = (start_none c.args.guests.now, λ k h. absurd (omega arith))
 
-pub overflow-add-to : goal.overflow-add-to
-overflow-add-to c = omega (arith, (part c.args.guests.now c.args.tasks.now c.loop-i.i c.loop-i.from c.requires c.loop-i-test.true c.loop-i.invariant.0).within)
+pub overflow_add-to : goal.overflow_add-to
+overflow_add-to c = omega (arith, (part c.args.guests.now c.args.tasks.now c.loop-i.i c.loop-i.from c.requires c.loop-i-test.true c.loop-i.invariant.0).within)
 
-pub first-bad-task-requires : goal.first-bad-task-requires
-first-bad-task-requires c =
+pub first_bad_task-requires : goal.first_bad_task-requires
+first_bad_task-requires c =
     (omega arith, (part c.args.guests.now c.args.tasks.now c.loop-i.i c.loop-i.from c.requires c.loop-i-test.true c.loop-i.invariant.0).within)
 
 pub returns-in-Some : goal.returns-in-Some
@@ -36,7 +36,7 @@ returns-in-Some c =
 pub loop-i-preserved : goal.loop-i-preserved
 loop-i-preserved c =
     let p = part c.args.guests.now c.args.tasks.now c.loop-i.i c.loop-i.from c.requires c.loop-i-test.true c.loop-i.invariant.0 in
-    (p.next, λ k h. elim (dec_lt k c.loop-i.from) [ yes b ↦ c.loop-i.invariant.1 k b | no b ↦ c.in-default.ensures k (omega (arith, b)) h ])
+    (p.next, λ k h. elim (dec_lt k c.loop-i.from) [ yes b ↦ c.loop-i.invariant.1 k b | no b ↦ c.in_default.ensures k (omega (arith, b)) h ])
 
 pub returns : goal.returns
 returns c =

@@ -8,17 +8,17 @@ use Rattle.admission.proofs.search.check_guest_demands.Goals as goal
 pub loop-i-init : goal.loop-i-init
 loop-i-init c = (start_none c.args.guests.now, λ k h. absurd (omega arith))
 
-pub overflow-add-to : goal.overflow-add-to
-overflow-add-to c = omega (arith, (part c.args.guests.now c.args.tasks.now c.loop-i.i c.loop-i.from c.requires.sound.agreeing c.loop-i-test.true c.loop-i.invariant.0).within)
+pub overflow_add-to : goal.overflow_add-to
+overflow_add-to c = omega (arith, (part c.args.guests.now c.args.tasks.now c.loop-i.i c.loop-i.from c.requires.sound.agreeing c.loop-i-test.true c.loop-i.invariant.0).within)
 
-pub offset-bounds-tasks-from : goal.offset-bounds-tasks-from
-offset-bounds-tasks-from c = omega (arith, (part c.args.guests.now c.args.tasks.now c.loop-i.i c.loop-i.from c.requires.sound.agreeing c.loop-i-test.true c.loop-i.invariant.0).within)
+pub offset_bounds-tasks-from : goal.offset_bounds-tasks-from
+offset_bounds-tasks-from c = omega (arith, (part c.args.guests.now c.args.tasks.now c.loop-i.i c.loop-i.from c.requires.sound.agreeing c.loop-i-test.true c.loop-i.invariant.0).within)
 
-pub slice-bounds-tasks-short-end : goal.slice-bounds-tasks-short-end
-slice-bounds-tasks-short-end c = (part c.args.guests.now c.args.tasks.now c.loop-i.i c.loop-i.from c.requires.sound.agreeing c.loop-i-test.true c.loop-i.invariant.0).within
+pub slice_bounds-tasks_short-end : goal.slice_bounds-tasks_short-end
+slice_bounds-tasks_short-end c = (part c.args.guests.now c.args.tasks.now c.loop-i.i c.loop-i.from c.requires.sound.agreeing c.loop-i-test.true c.loop-i.invariant.0).within
 
-pub tasks-short-requires : goal.tasks-short-requires
-tasks-short-requires c =
+pub tasks_short-requires : goal.tasks_short-requires
+tasks_short-requires c =
     let gs = c.args.guests.now in
     let ks = c.args.tasks.now in
     let i = c.loop-i.i in
@@ -35,4 +35,4 @@ returns-in-Some c =
 pub loop-i-preserved : goal.loop-i-preserved
 loop-i-preserved c =
     let p = part c.args.guests.now c.args.tasks.now c.loop-i.i c.loop-i.from c.requires.sound.agreeing c.loop-i-test.true c.loop-i.invariant.0 in
-    (p.next, below_more _ _ c.loop-i.invariant.1 (rw p.is at c.in-default.ensures))
+    (p.next, below_more _ _ c.loop-i.invariant.1 (rw p.is at c.in_default.ensures))

@@ -8,17 +8,17 @@ use Rattle.admission.proofs.search.check_guest_spares.Goals as goal
 pub loop-i-init : goal.loop-i-init
 loop-i-init c = (start_none c.args.guests.now, λ k h. absurd (omega arith))
 
-pub overflow-add-to : goal.overflow-add-to
-overflow-add-to c = omega (arith, (part c.args.guests.now c.args.tasks.now c.loop-i.i c.loop-i.from c.requires.agreeing c.loop-i-test.true c.loop-i.invariant.0).within)
+pub overflow_add-to : goal.overflow_add-to
+overflow_add-to c = omega (arith, (part c.args.guests.now c.args.tasks.now c.loop-i.i c.loop-i.from c.requires.agreeing c.loop-i-test.true c.loop-i.invariant.0).within)
 
-pub offset-bounds-tasks-from : goal.offset-bounds-tasks-from
-offset-bounds-tasks-from c = omega (arith, (part c.args.guests.now c.args.tasks.now c.loop-i.i c.loop-i.from c.requires.agreeing c.loop-i-test.true c.loop-i.invariant.0).within)
+pub offset_bounds-tasks-from : goal.offset_bounds-tasks-from
+offset_bounds-tasks-from c = omega (arith, (part c.args.guests.now c.args.tasks.now c.loop-i.i c.loop-i.from c.requires.agreeing c.loop-i-test.true c.loop-i.invariant.0).within)
 
-pub slice-bounds-tasks-have-spare-end : goal.slice-bounds-tasks-have-spare-end
-slice-bounds-tasks-have-spare-end c = (part c.args.guests.now c.args.tasks.now c.loop-i.i c.loop-i.from c.requires.agreeing c.loop-i-test.true c.loop-i.invariant.0).within
+pub slice_bounds-tasks_have_spare-end : goal.slice_bounds-tasks_have_spare-end
+slice_bounds-tasks_have_spare-end c = (part c.args.guests.now c.args.tasks.now c.loop-i.i c.loop-i.from c.requires.agreeing c.loop-i-test.true c.loop-i.invariant.0).within
 
-pub tasks-have-spare-requires : goal.tasks-have-spare-requires
-tasks-have-spare-requires c =
+pub tasks_have_spare-requires : goal.tasks_have_spare-requires
+tasks_have_spare-requires c =
     let gs = c.args.guests.now in
     let ks = c.args.tasks.now in
     let i = c.loop-i.i in
@@ -27,12 +27,12 @@ tasks-have-spare-requires c =
     rw p.is
     (record { server = All-get_or ServerOk gs i no_guest lt c.requires.servers; ok = tasks_ok gs ks i c.requires.tasks; few = tasks_few gs ks i p.few })
 
-pub returns-then-not-tasks-have-spare : goal.returns-then-not-tasks-have-spare
-returns-then-not-tasks-have-spare c =
+pub returns-then-not-tasks_have_spare : goal.returns-then-not-tasks_have_spare
+returns-then-not-tasks_have_spare c =
     let p = part c.args.guests.now c.args.tasks.now c.loop-i.i c.loop-i.from c.requires.agreeing c.loop-i-test.true c.loop-i.invariant.0 in
-    (c.loop-i.i, refl, c.loop-i-test.true, record { broken = rw p.is at c.if-not-tasks-have-spare.ensures; before = c.loop-i.invariant.1 })
+    (c.loop-i.i, refl, c.loop-i-test.true, record { broken = rw p.is at c.if-not-tasks_have_spare.ensures; before = c.loop-i.invariant.1 })
 
 pub loop-i-preserved : goal.loop-i-preserved
 loop-i-preserved c =
     let p = part c.args.guests.now c.args.tasks.now c.loop-i.i c.loop-i.from c.requires.agreeing c.loop-i-test.true c.loop-i.invariant.0 in
-    (p.next, below_more _ _ c.loop-i.invariant.1 (rw p.is at c.if-not-tasks-have-spare.ensures))
+    (p.next, below_more _ _ c.loop-i.invariant.1 (rw p.is at c.if-not-tasks_have_spare.ensures))

@@ -9,28 +9,28 @@ use Rattle.admission.proofs.Bounds.{link_confined, link_near}
 use Rattle.admission.proofs.Readings.{reads_supply}
 use Rattle.admission.proofs.search.check_link_demand.Goals as goal
 
-pub overflow-mul-end : goal.overflow-mul-end
-overflow-mul-end c = omega (arith, count_by-le-length free? c.args.table.now, c.of-lookup.ensures.free)
+pub overflow_mul-end : goal.overflow_mul-end
+overflow_mul-end c = omega (arith, count_by-le-length free? c.args.table.now, c.of-lookup.ensures.free)
 
-pub servers-demand-requires : goal.servers-demand-requires
-servers-demand-requires c = record {
+pub servers_demand-requires : goal.servers_demand-requires
+servers_demand-requires c = record {
   ok = c.requires.ok;
   few = c.requires.few;
   near = omega (arith, count_by-le-length free? c.args.table.now, c.of-lookup.ensures.free);
 }
 
-pub next-step-t-requires : goal.next-step-t-requires
-next-step-t-requires c = record {
+pub next_step-t-requires : goal.next_step-t-requires
+next_step-t-requires c = record {
   ok = servers_streams c.args.guests.now c.requires.ok;
   near = (c.loop-t-test.true, omega (arith, count_by-le-length free? c.args.table.now, c.of-lookup.ensures.free));
 }
 
-pub returns-then-servers-demand-at : goal.returns-then-servers-demand-at
-returns-then-servers-demand-at c = (
+pub returns-then-servers_demand-at : goal.returns-then-servers_demand-at
+returns-then-servers_demand-at c = (
   c.loop-t.t,
   refl,
   record {
-    broken = λ le. omega (arith, le, c.servers_demand_lem.ensures, c.at.ensures, c.if-servers-demand-at.true, reads_supply c.of-lookup.result c.args.table.now c.loop-t.t c.of-lookup.ensures);
+    broken = λ le. omega (arith, le, c.servers_demand_lem.ensures, c.at.ensures, c.if-servers_demand-at.true, reads_supply c.of-lookup.result c.args.table.now c.loop-t.t c.of-lookup.ensures);
     before = c.loop-t.invariant;
   },
 )
@@ -44,11 +44,11 @@ loop-t-preserved c s h =
           (let le : t ≤ s = omega (arith, b) in
           omega (
             arith,
-            servers_flat t c.next-step-t.result s c.args.guests.now c.requires.ok c.next-step-t.ensures.flat le h,
+            servers_flat t c.next_step-t.result s c.args.guests.now c.requires.ok c.next_step-t.ensures.flat le h,
             supply_grows c.args.table.now t s le,
             c.servers_demand_lem.ensures,
             c.at.ensures,
-            c.if-servers-demand-at.false,
+            c.if-servers_demand-at.false,
             reads_supply c.of-lookup.result c.args.table.now t c.of-lookup.ensures,
           ))
     ]

@@ -7,14 +7,14 @@ use Rattle.admission.proofs.search.check_link_spare.Goals as goal
 pub shares-requires : goal.shares-requires
 shares-requires c = record { ok = servers_streams c.args.guests.now c.requires.ok; few = c.requires.few }
 
-pub returns-then-leaves-spare : goal.returns-then-leaves-spare
-returns-then-leaves-spare c =
-    link_spare_tells true c.args.table.now c.args.guests.now c.shares.result c.share-down-whole.result c.if-leaves-spare.ensures
-    c.shares.ensures.value (c.share-down-whole.ensures ∙ ap (λ f. share_down f (length c.args.table.now)) c.free-bytes.ensures)
+pub returns-then-leaves_spare : goal.returns-then-leaves_spare
+returns-then-leaves_spare c =
+    link_spare_tells true c.args.table.now c.args.guests.now c.shares.result c.share_down-whole.result c.if-leaves_spare.ensures
+    c.shares.ensures.value (c.share_down-whole.ensures ∙ ap (λ f. share_down f (length c.args.table.now)) c.free_bytes.ensures)
 
-pub returns-else-leaves-spare : goal.returns-else-leaves-spare
-returns-else-leaves-spare c = (
+pub returns-else-leaves_spare : goal.returns-else-leaves_spare
+returns-else-leaves_spare c = (
   refl,
-  link_spare_tells false c.args.table.now c.args.guests.now c.shares.result c.share-down-whole.result c.if-leaves-spare.ensures
-      c.shares.ensures.value (c.share-down-whole.ensures ∙ ap (λ f. share_down f (length c.args.table.now)) c.free-bytes.ensures),
+  link_spare_tells false c.args.table.now c.args.guests.now c.shares.result c.share_down-whole.result c.if-leaves_spare.ensures
+      c.shares.ensures.value (c.share_down-whole.ensures ∙ ap (λ f. share_down f (length c.args.table.now)) c.free_bytes.ensures),
 )

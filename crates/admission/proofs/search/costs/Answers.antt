@@ -5,8 +5,8 @@ use Rattle.admission.specs.Plan.{no_task, cost_of}
 use Rattle.admission.specs.Limits.{TaskOk}
 use Rattle.admission.proofs.search.costs.Goals as goal
 
-pub overflow-add-sum : goal.overflow-add-sum
-overflow-add-sum c = omega (arith, All-get_or TaskOk c.args.tasks.now c.loop-k.k-index no_task c.loop-k-test.true c.requires.ok)
+pub overflow_add-sum : goal.overflow_add-sum
+overflow_add-sum c = omega (arith, All-get_or TaskOk c.args.tasks.now c.loop-k.k-index no_task c.loop-k-test.true c.requires.ok)
 
 pub loop-k-preserved : goal.loop-k-preserved
 loop-k-preserved c =

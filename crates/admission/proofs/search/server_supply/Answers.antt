@@ -8,11 +8,11 @@ pub returns-then-t-gap : goal.returns-then-t-gap
 unfolding server_supply
 returns-then-t-gap c = rw (lt-ltb _ _ c.if-t-gap.true) refl
 
-pub overflow-mul-result : goal.overflow-mul-result
-overflow-mul-result c = omega (arith, supply_parts_small c.args.t c.args.g.period c.args.g.budget c.requires.0.within)
+pub overflow_mul-result : goal.overflow_mul-result
+overflow_mul-result c = omega (arith, supply_parts_small c.args.t c.args.g.period c.args.g.budget c.requires.0.within)
 
-pub overflow-add-result : goal.overflow-add-result
-overflow-add-result c =
+pub overflow_add-result : goal.overflow_add-result
+overflow_add-result c =
     let b = supply_parts_small c.args.t c.args.g.period c.args.g.budget c.requires.0.within in
     elim c.if-over-gap.branch [ then-over-gap w ↦ omega (arith, b, w.part-is) | else-over-gap w ↦ omega (arith, b, w.part-is) ]
 

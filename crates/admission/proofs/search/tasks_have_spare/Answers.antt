@@ -8,5 +8,5 @@ shares-requires c = record { ok = tasks_streams c.args.tasks.now c.requires.ok; 
 
 pub returns : goal.returns
 returns c =
-    tasks_spare_tells c.leaves-spare.result c.args.g.period c.args.g.budget c.args.tasks.now c.shares.result c.share-down.result
-    c.leaves-spare.ensures c.shares.ensures.value c.share-down.ensures
+    tasks_spare_tells c.leaves_spare.result c.args.g.period c.args.g.budget c.args.tasks.now c.shares.result c.share_down.result
+    c.leaves_spare.ensures c.shares.ensures.value c.share_down.ensures

@@ -5,8 +5,8 @@ use Rattle.admission.proofs.Flat.{tasks_streams, tasks_flat, server_supply_grows
 use Rattle.admission.proofs.Bounds.{tasks_confined}
 use Rattle.admission.proofs.search.tasks_short.Goals as goal
 
-pub next-step-t-requires : goal.next-step-t-requires
-next-step-t-requires c = record { ok = tasks_streams c.args.tasks.now c.requires.ok; near = (c.loop-t-test.true, omega (arith, c.costs.ensures.bound)) }
+pub next_step-t-requires : goal.next_step-t-requires
+next_step-t-requires c = record { ok = tasks_streams c.args.tasks.now c.requires.ok; near = (c.loop-t-test.true, omega (arith, c.costs.ensures.bound)) }
 
 pub loop-t-preserved : goal.loop-t-preserved
 loop-t-preserved c s h =
@@ -17,11 +17,11 @@ loop-t-preserved c s h =
           (let le : t ≤ s = omega (arith, b) in
           omega (
             arith,
-            tasks_flat t c.next-step-t.result s c.args.tasks.now c.next-step-t.ensures.flat le h,
+            tasks_flat t c.next_step-t.result s c.args.tasks.now c.next_step-t.ensures.flat le h,
             server_supply_grows c.args.g.period c.args.g.budget t s c.requires.server.some c.requires.server.within le,
-            c.tasks-demand.ensures,
-            c.server-supply.ensures,
-            c.if-tasks-demand-server-supply.false,
+            c.tasks_demand.ensures,
+            c.server_supply.ensures,
+            c.if-tasks_demand-server_supply.false,
           ))
     ]
 

@@ -8,22 +8,22 @@ pub loop-x-init : goal.loop-x-init
 unfolding streams_demand
 loop-x-init g c = (omega arith, refl)
 
-pub task-demand-sum-requires : goal.task-demand-sum-requires
-task-demand-sum-requires g c = (item_ok g.S.Stream.task c.args.streams.now c.loop-x.x-index c.x-item.result c.as-task.result c.loop-x-test.true c.x-item.is c.as-task.ensures c.requires.ok, c.requires.near)
+pub task_demand-sum-requires : goal.task_demand-sum-requires
+task_demand-sum-requires g c = (item_ok g.S.Stream.task c.args.streams.now c.loop-x.x-index c.x-item.result c.as_task.result c.loop-x-test.true c.x-item.is c.as_task.ensures c.requires.ok, c.requires.near)
 
-pub overflow-add-sum : goal.overflow-add-sum
-overflow-add-sum g c =
-    let ok = item_ok g.S.Stream.task c.args.streams.now c.loop-x.x-index c.x-item.result c.as-task.result c.loop-x-test.true c.x-item.is c.as-task.ensures c.requires.ok in
-    omega (arith, c.task-demand-sum.ensures, task_small c.args.t c.as-task.result ok)
+pub overflow_add-sum : goal.overflow_add-sum
+overflow_add-sum g c =
+    let ok = item_ok g.S.Stream.task c.args.streams.now c.loop-x.x-index c.x-item.result c.as_task.result c.loop-x-test.true c.x-item.is c.as_task.ensures c.requires.ok in
+    omega (arith, c.task_demand-sum.ensures, task_small c.args.t c.as_task.result ok)
 
 pub loop-x-preserved : goal.loop-x-preserved
 loop-x-preserved g c =
-    let ok = item_ok g.S.Stream.task c.args.streams.now c.loop-x.x-index c.x-item.result c.as-task.result c.loop-x-test.true c.x-item.is c.as-task.ensures c.requires.ok in
+    let ok = item_ok g.S.Stream.task c.args.streams.now c.loop-x.x-index c.x-item.result c.as_task.result c.loop-x-test.true c.x-item.is c.as_task.ensures c.requires.ok in
     omega (
       arith,
-      c.task-demand-sum.ensures,
-      task_small c.args.t c.as-task.result ok,
-      demand_more g.S.Stream.task c.args.streams.now c.loop-x.x-index c.x-item.result c.as-task.result c.loop-x-test.true c.x-item.is c.as-task.ensures c.args.t,
+      c.task_demand-sum.ensures,
+      task_small c.args.t c.as_task.result ok,
+      demand_more g.S.Stream.task c.args.streams.now c.loop-x.x-index c.x-item.result c.as_task.result c.loop-x-test.true c.x-item.is c.as_task.ensures c.args.t,
     )
 
 pub returns : goal.returns

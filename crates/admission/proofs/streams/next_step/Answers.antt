@@ -5,8 +5,8 @@ use Rattle.admission.specs.Streams.{Flat}
 use Rattle.admission.proofs.Items.{item_ok, flat_more}
 use Rattle.admission.proofs.streams.next_step.Goals as goal
 
-pub task-step-requires : goal.task-step-requires
-task-step-requires g c = (item_ok g.S.Stream.task c.args.streams.now c.loop-x.x-index c.x-item.result c.as-task.result c.loop-x-test.true c.x-item.is c.as-task.ensures c.requires.ok, omega arith)
+pub task_step-requires : goal.task_step-requires
+task_step-requires g c = (item_ok g.S.Stream.task c.args.streams.now c.loop-x.x-index c.x-item.result c.as_task.result c.loop-x-test.true c.x-item.is c.as_task.ensures c.requires.ok, omega arith)
 
 pub loop-x-preserved : goal.loop-x-preserved
 loop-x-preserved g c =
@@ -14,12 +14,12 @@ loop-x-preserved g c =
     let t = c.args.t in
     let n = c.min-next.result in
     let le : n ≤ c.loop-x.next = omega arith in
-    let st : n ≤ c.task-step.result = omega arith in (
+    let st : n ≤ c.task_step.result = omega arith in (
       omega arith,
       omega arith,
-      flat_more g.S.Stream.task c.args.streams.now c.loop-x.x-index c.x-item.result c.as-task.result c.loop-x-test.true c.x-item.is c.as-task.ensures t n
+      flat_more g.S.Stream.task c.args.streams.now c.loop-x.x-index c.x-item.result c.as_task.result c.loop-x-test.true c.x-item.is c.as_task.ensures t n
           (All-weaker (Flat task t c.loop-x.next) (Flat task t n) (λ x f s from to. f s from (omega arith)) (take c.loop-x.x-index c.args.streams.now) c.loop-x.invariant.2)
-          (λ s from to. c.task-step.ensures.flat s from (omega arith)),
+          (λ s from to. c.task_step.ensures.flat s from (omega arith)),
     )
 
 pub returns : goal.returns

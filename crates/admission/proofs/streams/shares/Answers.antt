@@ -8,17 +8,17 @@ pub loop-x-init : goal.loop-x-init
 unfolding stream_shares
 loop-x-init g c = (omega arith, refl)
 
-pub share-up-sum-requires : goal.share-up-sum-requires
-share-up-sum-requires g c = omega (arith, item_ok g.S.Stream.task c.args.streams.now c.loop-x.x-index c.x-item.result c.as-task-k.result c.loop-x-test.true c.x-item.is c.as-task-k.ensures c.requires.ok)
+pub share_up-sum-requires : goal.share_up-sum-requires
+share_up-sum-requires g c = omega (arith, item_ok g.S.Stream.task c.args.streams.now c.loop-x.x-index c.x-item.result c.as_task-k.result c.loop-x-test.true c.x-item.is c.as_task-k.ensures c.requires.ok)
 
 pub loop-x-preserved : goal.loop-x-preserved
 loop-x-preserved g c =
-    let ok = item_ok g.S.Stream.task c.args.streams.now c.loop-x.x-index c.x-item.result c.as-task-k.result c.loop-x-test.true c.x-item.is c.as-task-k.ensures c.requires.ok in
+    let ok = item_ok g.S.Stream.task c.args.streams.now c.loop-x.x-index c.x-item.result c.as_task-k.result c.loop-x-test.true c.x-item.is c.as_task-k.ensures c.requires.ok in
     omega (
       arith,
-      c.share-up-sum.ensures,
-      stream_share_small c.as-task-k.result ok,
-      shares_more g.S.Stream.task c.args.streams.now c.loop-x.x-index c.x-item.result c.as-task-k.result c.loop-x-test.true c.x-item.is c.as-task-k.ensures,
+      c.share_up-sum.ensures,
+      stream_share_small c.as_task-k.result ok,
+      shares_more g.S.Stream.task c.args.streams.now c.loop-x.x-index c.x-item.result c.as_task-k.result c.loop-x-test.true c.x-item.is c.as_task-k.ensures,
     )
 
 pub returns : goal.returns

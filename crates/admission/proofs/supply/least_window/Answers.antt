@@ -6,17 +6,17 @@ use Rattle.admission.proofs.supply.least_window.Goals.{then-free-least, else-fre
 
 pub loop-s-init : goal.loop-s-init
 unfolding least_to
-loop-s-init c = (omega (arith, window_le c.args.table.now 0 c.args.t), c.first-window-free.ensures, c.first-window-free.ensures)
+loop-s-init c = (omega (arith, window_le c.args.table.now 0 c.args.t), c.first_window-free.ensures, c.first_window-free.ensures)
 
-pub overflow-sub-free : goal.overflow-sub-free
-overflow-sub-free c = omega (arith, window_slide c.args.table.now c.loop-s.s c.args.t)
+pub overflow_sub-free : goal.overflow_sub-free
+overflow_sub-free c = omega (arith, window_slide c.args.table.now c.loop-s.s c.args.t)
 
 pub loop-s-preserved : goal.loop-s-preserved
 loop-s-preserved c =
     let xs = c.args.table.now in
     let t = c.args.t in
     let s = c.loop-s.s in
-    let slid : c.loop-s.free + c.slot-free.result - c.slot-free-in-loop-s.result ≡ window_free xs (s + 1) t =
+    let slid : c.loop-s.free + c.slot_free.result - c.slot_free-in-loop-s.result ≡ window_free xs (s + 1) t =
     omega (arith, window_slide xs s t, ap (λ k. window_free xs k t) (add-one s)) in
     elim c.if-free-least.branch [
       | then-free-least w ↦ omega (arith, window_le xs (s + 1) t, least_more xs t s, w.least-is, w.if-free-least.true)

@@ -12,9 +12,9 @@ loop-e-init c = sym (append-nil (take 12 c.args.block.now))
 
 pub loop-e-preserved : goal.loop-e-preserved
 loop-e-preserved c =
-    entries_more c.loop-e.block c.put.new.block (take 12 c.args.block.now) c.to-bytes.result c.args.entries.now c.loop-e.e
-    (omega arith) (c.to-bytes.ensures ∙ ap field_bytes c.of.ensures) (ap length c.to-bytes.ensures) c.loop-e.invariant
-    (subst (λ (n : ℕ). take (n + length c.to-bytes.result) c.put.new.block ≡ take n c.loop-e.block ++ c.to-bytes.result) c.place-start.ensures c.put.ensures)
+    entries_more c.loop-e.block c.put.new.block (take 12 c.args.block.now) c.to_bytes.result c.args.entries.now c.loop-e.e
+    (omega arith) (c.to_bytes.ensures ∙ ap field_bytes c.of.ensures) (ap length c.to_bytes.ensures) c.loop-e.invariant
+    (subst (λ (n : ℕ). take (n + length c.to_bytes.result) c.put.new.block ≡ take n c.loop-e.block ++ c.to_bytes.result) c.place_start.ensures c.put.ensures)
 
 pub returns : goal.returns
 returns c =

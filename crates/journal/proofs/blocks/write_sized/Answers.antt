@@ -21,13 +21,13 @@ pub returns : goal.returns
 returns c =
     let some : 1 ≤ length c.args.entries.now = omega arith in
     let few : length c.args.entries.now ≤ 31 = omega arith in
-    let answer = by_entries c.args.entries.now None c.in-default.ensures.value in
-    let zeros = subst (λ (n : ℕ). take 508 c.put-zeros.new.block ≡ take n c.put-entries.new.block ++ replicate (508 - n) 0) c.place-start.ensures c.put-zeros.ensures in
-    let made : c.put-sums.new.block ≡ block_bytes c.args.number c.args.entries.now =
-    block_made c.args.number c.args.entries.now (take 12 c.put-header.new.block) (take (12 + 16 * length c.args.entries.now) c.put-entries.new.block)
-    (take 508 c.put-zeros.new.block) c.put-sums.new.block few c.put-header.ensures c.put-entries.ensures zeros c.put-sums.ensures in
+    let answer = by_entries c.args.entries.now None c.in_default.ensures.value in
+    let zeros = subst (λ (n : ℕ). take 508 c.put_zeros.new.block ≡ take n c.put_entries.new.block ++ replicate (508 - n) 0) c.place_start.ensures c.put_zeros.ensures in
+    let made : c.put_sums.new.block ≡ block_bytes c.args.number c.args.entries.now =
+    block_made c.args.number c.args.entries.now (take 12 c.put_header.new.block) (take (12 + 16 * length c.args.entries.now) c.put_entries.new.block)
+    (take 508 c.put_zeros.new.block) c.put_sums.new.block few c.put_header.ensures c.put_entries.ensures zeros c.put_sums.ensures in
     let fit : (k : ℕ) → k < length c.args.entries.now → entry_fits c.args.entries.now k ≡ true =
-    λ k lt. passing (entry_fits c.args.entries.now) (length c.args.entries.now) 0 (sym c.in-default.ensures.value) k (omega arith) (omega arith) in
+    λ k lt. passing (entry_fits c.args.entries.now) (length c.args.entries.now) 0 (sym c.in_default.ensures.value) k (omega arith) (omega arith) in
     record {
       answer = answer;
       after = made ∙ ap (λ (r : Result (Unit {0}) DeclineNumbers). block_left r c.args.number c.args.entries.now c.args.block.now) answer;

@@ -15,6 +15,6 @@ returns-in-len1-up t c =
     let some : 0 < length c.args.part.now = omega (arith, ltb-false) in
     let e = first_rest c.args.part.now 0 some in
     record {
-      a = omega (arith, ap sum_a e, c.sums-rest-a.ensures.a, c.sums-with.ensures.a);
-      b = omega (arith, ap sum_b e, c.sums-rest-a.ensures.a, c.sums-rest-a.ensures.b, c.sums-with.ensures.b);
+      a = omega (arith, ap sum_a e, c.sums-rest_a.ensures.a, c.sums_with.ensures.a);
+      b = omega (arith, ap sum_b e, c.sums-rest_a.ensures.a, c.sums-rest_a.ensures.b, c.sums_with.ensures.b);
     }

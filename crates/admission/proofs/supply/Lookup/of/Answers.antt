@@ -6,5 +6,5 @@ loop-t-preserved c = (
   simp length-set c.loop-t.invariant.0,
   below_more _ _
       (λ k h. let ne : k ≢ c.loop-t.t = omega arith in rw get_or-set_other (c.loop-t.invariant.1 k h))
-      (let lt : c.loop-t.t < length c.loop-t.counts = omega arith in rw get_or-set_same c.least-window.ensures),
+      (let lt : c.loop-t.t < length c.loop-t.counts = omega arith in rw get_or-set_same c.least_window.ensures),
 )

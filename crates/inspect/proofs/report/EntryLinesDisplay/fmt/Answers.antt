@@ -15,7 +15,7 @@ loop-e-init g c = λ p. record { wrote = writes_in_calls_nil g.W.Write.write_str
 pub loop-e-preserved : goal.loop-e-preserved
 loop-e-preserved g c = λ p.
     let before = c.loop-e.invariant p in
-    let line = c.writeln.ensures.writes before.plain (ap is_ok c.in-ok-writeln.was) in
+    let line = c.writeln.ensures.writes before.plain (ap is_ok c.in_ok-writeln.was) in
     has_written_of_eq g.W.Write.write_str_gives c.args.f.now _ _ c.writeln.new.self
     (lines_more c.args.self.now.entries.now c.loop-e.e-index _ c.loop-e-test.true)
     (has_written_append g.W.Write.write_str_gives c.args.f.now _ c.loop-e.f _ c.writeln.new.self before line)
