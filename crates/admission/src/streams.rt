@@ -47,9 +47,9 @@ fn share_up(a: u32, b: u32) -> u64
 
 // The shares of some streams, in millionths.
 pub(crate) fn shares<S: Stream>(streams: &[S]) -> u64
-    requires ok { StreamsOk task streams.now }
+    requires ok { StreamsOk S.task streams.now }
     requires few { length streams.now ≤ 16 }
-    ensures value { result ≡ stream_shares task streams.now }
+    ensures value { result ≡ stream_shares S.task streams.now }
     ensures bound { result ≤ 16000000 }
 {
     let mut sum = 0;
@@ -74,10 +74,10 @@ fn task_demand(k: Task, t: u32) -> u32
 
 // What some streams may need in t slots.
 pub(crate) fn demand<S: Stream>(streams: &[S], t: u32) -> u32
-    requires ok { StreamsOk task streams.now }
+    requires ok { StreamsOk S.task streams.now }
     requires few { length streams.now ≤ 16 }
     requires near { t ≤ 250000 }
-    ensures { result ≡ streams_demand task streams.now t }
+    ensures { result ≡ streams_demand S.task streams.now t }
 {
     let mut sum = 0;
     for x in streams {
@@ -101,10 +101,10 @@ fn task_step(k: Task, t: u32) -> u32
 
 // The next number of slots, at most `end`, in which a stream needs more than in t.
 pub(crate) fn next_step<S: Stream>(streams: &[S], t: u32, end: u32) -> u32
-    requires ok { StreamsOk task streams.now }
+    requires ok { StreamsOk S.task streams.now }
     requires near { (t < end) × (end ≤ 250000) }
     ensures later { (t < result) × (result ≤ end) }
-    ensures flat { All (Flat task t result) streams.now }
+    ensures flat { All (Flat S.task t result) streams.now }
 {
     let mut next = end;
     for x in streams {

@@ -30,7 +30,7 @@ returns-then-servers_demand-at c = (
   c.loop-t.t,
   refl,
   record {
-    broken = λ le. omega (arith, le, c.servers_demand_lem.ensures, c.at.ensures, c.if-servers_demand-at.true, reads_supply c.of-lookup.result c.args.table.now c.loop-t.t c.of-lookup.ensures);
+    broken = λ le. omega (arith, le, c.servers_demand.ensures, c.at.ensures, c.if-servers_demand-at.true, reads_supply c.of-lookup.result c.args.table.now c.loop-t.t c.of-lookup.ensures);
     before = c.loop-t.invariant;
   },
 )
@@ -46,7 +46,7 @@ loop-t-preserved c s h =
             arith,
             servers_flat t c.next_step-t.result s c.args.guests.now c.requires.ok c.next_step-t.ensures.flat le h,
             supply_grows c.args.table.now t s le,
-            c.servers_demand_lem.ensures,
+            c.servers_demand.ensures,
             c.at.ensures,
             c.if-servers_demand-at.false,
             reads_supply c.of-lookup.result c.args.table.now t c.of-lookup.ensures,
