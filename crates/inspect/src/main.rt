@@ -8,32 +8,36 @@ mod tally;
 mod tests;
 
 use listing::list;
+use std::alloc::Global;
 use std::io;
-use std::io::{BufReader, BufWriter};
+use std::io::{BufReader, BufWriter, Read, Write};
+use std::process::ExitCode;
+use tally::Tally;
 
-// Why the program ends with status 1.
-#[derive(Debug, Drop)]
-enum Failure {
-    // The input could not be read, or the listing not be written.
-    Io(io::Error),
-    // A block was refused; the listing says which.
-    Refused,
+// Prints the journal that an input gives, both through buffers, and answers its counts.
+fn list_buffered<R: Read + Drop, W: Write + Drop>(
+    alloc: Global,
+    input: R,
+    out: W,
+) -> io::Result<Tally> {
+    let mut input = BufReader::new(alloc, input)?;
+    let mut out = BufWriter::new(alloc, out)?;
+    list(&mut input, &mut out)
 }
 
-fn main(rt: HostRuntime) -> Result<(), Failure> {
-    let mut input = BufReader::new(rt.stdin());
-    let mut out = BufWriter::new(rt.stdout());
-    match list(&mut input, &mut out) {
+// The status is 1 where a block was refused, which the listing says, and where the input could not be read or the listing not be written.
+fn main(rt: HostRuntime) -> ExitCode {
+    match list_buffered(rt.alloc(), rt.stdin(), rt.stdout()) {
         Ok(tally) => {
             if tally.refused == 0 {
-                Ok(())
+                ExitCode::SUCCESS
             } else {
-                Err(Failure::Refused)
+                ExitCode::FAILURE
             }
         }
         Err(e) => {
             let _ = eprintln!(rt; "inspect: {e}");
-            Err(Failure::Io(e))
+            ExitCode::FAILURE
         }
     }
 }
