@@ -50,7 +50,7 @@ fn entries_come_back_and_other_places_are_kept(rt: HostRuntime) {
             count: 4,
         })
     );
-    assert!(rt; &places[0..4] == &each_kind());
+    assert!(rt; &places[0..4] == each_kind().as_slice());
     assert!(rt; &places[4..31] == &held()[4..31]);
     let mut again = [7; 512];
     assert_eq!(rt; write(7, &places[0..4], &mut again), Ok(()));

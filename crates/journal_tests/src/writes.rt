@@ -120,10 +120,11 @@ fn a_used_grant_in_bytes(rt: HostRuntime) {
     assert_eq!(rt; write(0, &[used(1, 1, 1, 1, 10)], &mut block), Ok(()));
     assert!(rt;
         &block[12..28]
-            == &[
+            == [
                 0x00, 0x00, 0x00, 0x01, 0x02, 0x01, 0x01, 0x01, 0x00, 0x01, 0x01, 0xf4, 0x00, 0x00,
                 0x00, 0x0a,
             ]
+            .as_slice()
     );
     assert!(rt; block == sealed(block));
 }
