@@ -2,7 +2,7 @@
 use Rattle.std.proofs.Common.{◌≡◌, ℕ, zero, suc, ◌+◌, ◌-◌, ◌*◌, ◌/◌, ◌%◌, ◌<◌, ◌≤◌, cond, ltb, List, [], ◌∷◌, length, sum_by, le_trans, lt_of_lt_of_le, mul-le-mul_right, mod-lt, div-lt_iff_lt-mul, lt_of_mul-lt-mul_right, mul-le-mul_left, div-mul-le_self, arith, le-ltb, lt-ltb}
 use native.Mathlib.Decide.{dec_lt}
 use native.Mathlib.Nat.{mod-add-div', lt-div-mul-add, le_of_mul-le-mul_left}
-use Rattle.std.specs.List.{AllByRecursion as All}
+use Rattle.std.specs.List.{AllByRecursion}
 use Rattle.std.proofs.lemmas.List.Sums.{sum_by-cons}
 use Rattle.admission.specs.declared.setup.Guest.{Guest}
 use Rattle.admission.specs.declared.setup.Task.{Task}
@@ -32,7 +32,7 @@ server_share_lem : (t p b : ℕ) → 0 < p → 1000000 * (t / p * b) ≤ t * sha
 server_share_lem t p b pos =
     omega (arith, mul-le-mul_left (t / p) (share_up_lem b p pos), mul-le-mul_right (share_up b p) (div-mul-le_self t p))
 
-servers_share : (t : ℕ) (gs : List Guest) → All ServerOk gs → 1000000 * sum_by (server_demand t) gs ≤ t * sum_by server_share gs
+servers_share : (t : ℕ) (gs : List Guest) → AllByRecursion ServerOk gs → 1000000 * sum_by (server_demand t) gs ≤ t * sum_by server_share gs
 servers_share t [] ok = omega arith
 servers_share t (g ∷ gs) ok =
     let pos : 0 < g.period = omega (arith, ok.0) in
@@ -87,7 +87,7 @@ task_share_lem t c d s pos =
           rw (le-ltb t d le) (omega (arith, mul-le-mul_left q (share_up_lem c s pos), mul-le-mul_right (share_up c s) low)))
     ]
 
-tasks_share : (t : ℕ) (ks : List Task) → All TaskOk ks → 1000000 * sum_by (task_demand t) ks ≤ t * sum_by task_share ks + 1000000 * sum_by cost_of ks
+tasks_share : (t : ℕ) (ks : List Task) → AllByRecursion TaskOk ks → 1000000 * sum_by (task_demand t) ks ≤ t * sum_by task_share ks + 1000000 * sum_by cost_of ks
 tasks_share t [] ok = omega arith
 tasks_share t (k ∷ ks) ok =
     let pos : 0 < k.separation = omega (arith, ok.0) in

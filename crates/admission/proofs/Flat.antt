@@ -2,7 +2,7 @@
 use Rattle.std.proofs.Common.{◌≡◌, ℕ, ◌+◌, ◌-◌, ◌*◌, ◌/◌, ◌%◌, ◌<◌, ◌≤◌, cond, ltb, List, [], ◌∷◌, sym, refl, ap, ◌∙◌, mul-le-mul_right, mod-lt, div-lt_iff_lt-mul, mul-le-mul_left, div-mul-le_self, arith, le-ltb, lt-ltb}
 use native.Mathlib.Decide.{dec_lt}
 use native.Mathlib.Nat.{mod-add-div', lt-div-mul-add, div-eq_of_lt, add-div_right}
-use Rattle.std.specs.List.{AllByRecursion as All}
+use Rattle.std.specs.List.{AllByRecursion}
 use Rattle.std.proofs.lemmas.List.Sums.{sum_by-cons}
 use Rattle.std.proofs.ByRecursion.{All-weaker}
 use Rattle.admission.specs.declared.setup.Guest.{Guest}
@@ -41,7 +41,7 @@ pub task_later : (t : ℕ) (k : Task) → StreamOk k → k.deadline ≤ t → t 
 task_later t k ok h = omega (arith, lt-div-mul-add {a = t - k.deadline} {b = k.separation} (omega (arith, ok)))
 
 -- sums of what does not rise do not rise
-streams_flat : {X : Type 0} (task : X → Task) (t u s : ℕ) (xs : List X) → All (Flat task t u) xs → t ≤ s → s < u
+streams_flat : {X : Type 0} (task : X → Task) (t u s : ℕ) (xs : List X) → AllByRecursion (Flat task t u) xs → t ≤ s → s < u
     → streams_demand task xs s ≤ streams_demand task xs t
 unfolding streams_demand
 streams_flat task t u s [] flat from to = omega arith
@@ -56,10 +56,10 @@ server_stream g ok = record { some = ok.some; due = ok.within; apart = omega ari
 pub task_stream : (k : Task) → TaskOk k → StreamOk k
 task_stream k ok = record { some = ok.some; due = ok.due; apart = ok.apart; small = ok.small }
 
-pub servers_streams : (gs : List Guest) → All ServerOk gs → StreamsOk server_task gs
+pub servers_streams : (gs : List Guest) → AllByRecursion ServerOk gs → StreamsOk server_task gs
 servers_streams gs ok = All-weaker ServerOk (λ g. StreamOk (server_task g)) server_stream gs ok
 
-pub tasks_streams : (ks : List Task) → All TaskOk ks → StreamsOk (λ k. k) ks
+pub tasks_streams : (ks : List Task) → AllByRecursion TaskOk ks → StreamsOk (λ k. k) ks
 tasks_streams ks ok = All-weaker TaskOk StreamOk task_stream ks ok
 
 -- a server as a task has the server's demand
@@ -76,7 +76,7 @@ server_demand_lem t p b pos =
           rw (le-ltb t p le, q) refl)
     ]
 
-pub servers_demand_lem : (gs : List Guest) (t : ℕ) → All ServerOk gs → streams_demand server_task gs t ≡ servers_demand gs t
+pub servers_demand_lem : (gs : List Guest) (t : ℕ) → AllByRecursion ServerOk gs → streams_demand server_task gs t ≡ servers_demand gs t
 unfolding streams_demand servers_demand
 servers_demand_lem [] t ok = refl
 servers_demand_lem (g ∷ gs) t ok =
@@ -84,10 +84,10 @@ servers_demand_lem (g ∷ gs) t ok =
     (omega (arith, server_demand_lem t g.period g.budget (omega (arith, ok.0)), servers_demand_lem gs t ok.1))
 
 -- the demand of servers and of tasks does not rise between steps
-pub servers_flat : (t u s : ℕ) (gs : List Guest) → All ServerOk gs → All (Flat server_task t u) gs → t ≤ s → s < u → servers_demand gs s ≤ servers_demand gs t
+pub servers_flat : (t u s : ℕ) (gs : List Guest) → AllByRecursion ServerOk gs → AllByRecursion (Flat server_task t u) gs → t ≤ s → s < u → servers_demand gs s ≤ servers_demand gs t
 servers_flat t u s gs ok flat from to = omega (arith, streams_flat server_task t u s gs flat from to, servers_demand_lem gs s ok, servers_demand_lem gs t ok)
 
-pub tasks_flat : (t u s : ℕ) (ks : List Task) → All (TaskFlat t u) ks → t ≤ s → s < u → tasks_demand ks s ≤ tasks_demand ks t
+pub tasks_flat : (t u s : ℕ) (ks : List Task) → AllByRecursion (TaskFlat t u) ks → t ≤ s → s < u → tasks_demand ks s ≤ tasks_demand ks t
 unfolding tasks_demand streams_demand
 tasks_flat t u s ks flat from to = streams_flat (λ k. k) t u s ks flat from to
 

@@ -1,6 +1,6 @@
 -- One element more, in a loop over elements of any type.
 use Rattle.std.proofs.Common.{◌≡◌, ℕ, ◌+◌, ◌<◌, List, length, get_or, take, sum_by, sym, ap, ◌∙◌, subst}
-use Rattle.std.specs.List.{AllByRecursion as All}
+use Rattle.std.specs.List.{AllByRecursion}
 use Rattle.std.proofs.lemmas.List.Sums.{sum_by_more}
 use Rattle.std.proofs.ByRecursion.{All-get_or, All-more}
 use Rattle.admission.specs.declared.setup.Task.{Task}
@@ -23,6 +23,6 @@ module _ {X : Type 0} (task : X → Task) (xs : List X) (i : ℕ) (x : X) (k : T
   unfolding streams_demand
   demand_more t = sum_item (stream_demand task t) ∙ ap (λ n. sum_by (stream_demand task t) (take i xs) + task_demand t n) (sym same)
 
-  pub flat_more : (t u : ℕ) → All (Flat task t u) (take i xs) → TaskFlat t u k → All (Flat task t u) (take (i + 1) xs)
+  pub flat_more : (t u : ℕ) → AllByRecursion (Flat task t u) (take i xs) → TaskFlat t u k → AllByRecursion (Flat task t u) (take (i + 1) xs)
   flat_more t u before here =
       All-more (Flat task t u) xs i x lt before (subst (TaskFlat t u) (same ∙ ap task is) here)

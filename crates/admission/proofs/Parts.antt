@@ -2,7 +2,7 @@
 use Rattle.std.proofs.Common.{◌≡◌, ℕ, ◌+◌, ◌-◌, ◌*◌, ◌<◌, ◌≤◌, List, length, take, drop, sum_by, sym, refl, ap, arith, length-take, take_all}
 use native.Mathlib.Decide.{dec_lt}
 use Rattle.std.proofs.lemmas.List.{take-take}
-use Rattle.std.specs.List.{AllByRecursion as All}
+use Rattle.std.specs.List.{AllByRecursion}
 use Rattle.std.proofs.lemmas.List.Sums.{sum_by_more, sum_by-take-le}
 use Rattle.std.proofs.ByRecursion.{sum_by_le, All-get_or, All-take, All-drop}
 use Rattle.admission.specs.declared.setup.Guest.{Guest}
@@ -50,7 +50,7 @@ pub tasks_few : (gs : List Guest) (ks : List Task) (i : ℕ) → task_count_of (
 unfolding tasks_of
 tasks_few gs ks i few = simp length-take (omega (arith, few))
 
-pub tasks_ok : (gs : List Guest) (ks : List Task) (i : ℕ) → All TaskOk ks → All TaskOk (tasks_of gs ks i)
+pub tasks_ok : (gs : List Guest) (ks : List Task) (i : ℕ) → AllByRecursion TaskOk ks → AllByRecursion TaskOk (tasks_of gs ks i)
 unfolding tasks_of
 tasks_ok gs ks i ok = All-take TaskOk (task_count_of (guest_at gs i)) (drop (task_start gs i) ks) (All-drop TaskOk (task_start gs i) ks ok)
 

@@ -1,6 +1,6 @@
 -- What the contracts of the inner tests speak of.
 use Rattle.std.specs.Prelude.{◌≡◌, ℕ, ◌<◌, ◌≤◌, Bool, List, length, Some, None, MatchBool, sum_by, Option}
-use Rattle.std.specs.List.{AllByRecursion as All}
+use Rattle.std.specs.List.{AllByRecursion}
 use Rattle.admission.specs.declared.setup.Guest.{Guest}
 use Rattle.admission.specs.declared.setup.Task.{Task}
 use Rattle.admission.specs.Plan.{task_count_of}
@@ -9,14 +9,14 @@ use Rattle.admission.specs.Limits.{FewTasks, ServerOk, TaskOk}
 -- there are at most 16 guests of at most 8 tasks, and as many tasks as they count
 pub record Agreeing (gs : List Guest) (ks : List Task) : Type 0 where
   pub few : length gs ≤ 16
-  pub counts : All FewTasks gs
+  pub counts : AllByRecursion FewTasks gs
   pub agree : length ks ≡ sum_by task_count_of gs
 
 -- guests and tasks agree, and all servers and tasks keep their limits
 pub record Sound (gs : List Guest) (ks : List Task) : Type 0 where
   pub agreeing : Agreeing gs ks
-  pub servers : All ServerOk gs
-  pub tasks : All TaskOk ks
+  pub servers : AllByRecursion ServerOk gs
+  pub tasks : AllByRecursion TaskOk ks
 
 -- a test tells whether something holds
 abbrev pub Tells : Bool → Type 0 → Type 0

@@ -1,6 +1,6 @@
 -- Streams of work: servers and tasks alike, by their separation, cost and deadline.
 use Rattle.std.specs.Prelude.{ℕ, ◌<◌, ◌≤◌, List, sum_by}
-use Rattle.std.specs.List.{AllByRecursion as All}
+use Rattle.std.specs.List.{AllByRecursion}
 use Rattle.admission.specs.declared.setup.Guest.{Guest}
 use Rattle.admission.specs.declared.setup.Task.{Task}
 use Rattle.admission.specs.Demand.{task_demand, task_share}
@@ -24,7 +24,7 @@ TaskFlat t u k = (s : ℕ) → t ≤ s → s < u → task_demand s k ≤ task_de
 module _ {X : Type 0} (task : X → Task) where
   -- each stream of a list keeps these limits
   abbrev pub StreamsOk : List X → Type 0
-  StreamsOk xs = All (λ x. StreamOk (task x)) xs
+  StreamsOk xs = AllByRecursion (λ x. StreamOk (task x)) xs
 
   -- the share of a stream
   abbrev pub stream_share : X → ℕ

@@ -1,6 +1,6 @@
 -- The verdict on a setup: accepted if the ten rules hold, else the refusal of the first that does not, at its first place.
 use Rattle.std.specs.Prelude.{◌≡◌, ℕ, ◌+◌, ◌-◌, ◌<◌, ◌⊎◌, List, length, Ok, Err, Result}
-use Rattle.std.specs.List.{AllByRecursion as All}
+use Rattle.std.specs.List.{AllByRecursion}
 use Rattle.decline.specs.declared.Part.TheVariants.{Registers, Session, Table, FixedOperations, Guests, Tasks, Operations}
 use Rattle.decline.specs.declared.Decline.{Decline}
 use Rattle.decline.specs.declared.Decline.TheVariants.{SetupLimits, TableByte, ServerLimits, GuestWindow, TaskLimits, OperationRegister, LinkSpare, LinkDemand, GuestSpare, GuestDemand}
@@ -99,9 +99,9 @@ GuestsServed gs ks = (i : ℕ) → i < length gs → GuestServed gs ks i
 pub record WellFormed (p : Plan) (registers : ℕ) : Type 0 where
   pub sizes : SizesOk p registers
   pub bytes : BytesOk p.table (length p.fixed)
-  pub servers : All ServerOk p.guests
+  pub servers : AllByRecursion ServerOk p.guests
   pub windows : WindowsOk registers p.guests
-  pub tasks : All TaskOk p.tasks
+  pub tasks : AllByRecursion TaskOk p.tasks
   pub fixed : FixedsOk p.fixed registers
   pub operations : OperationsOk p.guests p.tasks p.operations
 
@@ -130,9 +130,9 @@ abbrev pub Declined : Plan → ℕ → DeclineNumbers → Type 0
 Declined p n =
     Tried (SizesOk p n) (SizesFault p n)
     (Tried (BytesOk p.table (length p.fixed)) (BytesFault p.table (length p.fixed))
-    (Tried (All ServerOk p.guests) (ServersFault p.guests)
+    (Tried (AllByRecursion ServerOk p.guests) (ServersFault p.guests)
     (Tried (WindowsOk n p.guests) (WindowsFault n p.guests)
-    (Tried (All TaskOk p.tasks) (TasksFault p.guests p.tasks)
+    (Tried (AllByRecursion TaskOk p.tasks) (TasksFault p.guests p.tasks)
     (Tried (FixedsOk p.fixed n) (FixedFault p.fixed n)
     (Tried (OperationsOk p.guests p.tasks p.operations) (OperationsFault p.guests p.tasks p.operations)
     (ScheduleFault p)))))))

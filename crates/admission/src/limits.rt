@@ -1,6 +1,6 @@
 // The rules 1 to 6 of a setup: sizes, table bytes, servers, windows, tasks and operations.
 ghost use Rattle.std.specs.Prelude.{◌≡◌, ◌+◌, ◌<◌, ◌≤◌, length, take, sum_by, MatchResult};
-ghost use Rattle.std.specs.List.{AllByRecursion as All};
+ghost use Rattle.std.specs.List.{AllByRecursion};
 ghost use Rattle.decline.specs.Refusals.{by_numbers};
 ghost use Rattle.admission.specs.Plan.{plan_of, task_count_of, cost_of};
 ghost use Rattle.admission.specs.Limits.{SizesOk, FewTasks, BytesOk, ServerOk, window_end, WindowFits, Apart, MeetsNone, WindowsOk, TaskOk, TaskHolds, FixedsOk, Inside, InsideHolds, OperationsOk};
@@ -12,7 +12,7 @@ use decline::{Decline, Part};
 
 // Whether each guest has at most 8 tasks.
 fn few_tasks_each(guests: &[Guest]) -> bool
-    ensures { Tells result (All FewTasks guests.now) }
+    ensures { Tells result (AllByRecursion FewTasks guests.now) }
 {
     for g in guests {
         if g.task_count > 8 {
@@ -24,7 +24,7 @@ fn few_tasks_each(guests: &[Guest]) -> bool
 
 // How many tasks guests of at most 8 tasks count together.
 fn task_total(guests: &[Guest]) -> usize
-    requires { (length guests.now ≤ 16) × (All FewTasks guests.now) }
+    requires { (length guests.now ≤ 16) × (AllByRecursion FewTasks guests.now) }
     ensures value { result ≡ sum_by task_count_of guests.now }
     ensures bound { result ≤ 128 }
 {
@@ -106,7 +106,7 @@ fn server_ok(g: Guest) -> bool
 // Rule 3: each server keeps its limits.
 pub(crate) fn check_servers(guests: &[Guest]) -> Result<(), Decline>
     requires { length guests.now ≤ 16 }
-    ensures { MatchResult (by_numbers result) (λ _. All ServerOk guests.now) (ServersFault guests.now) }
+    ensures { MatchResult (by_numbers result) (λ _. AllByRecursion ServerOk guests.now) (ServersFault guests.now) }
 {
     for (i, g) in guests.iter().enumerate() {
         if !server_ok(*g) {
@@ -194,7 +194,7 @@ fn first_bad_task(tasks: &[Task], from: usize, to: usize) -> Option<usize>
 // Rule 5: each task keeps its limits.
 pub(crate) fn check_tasks(guests: &[Guest], tasks: &[Task]) -> Result<(), Decline>
     requires { Agreeing guests.now tasks.now }
-    ensures { MatchResult (by_numbers result) (λ _. All TaskOk tasks.now) (TasksFault guests.now tasks.now) }
+    ensures { MatchResult (by_numbers result) (λ _. AllByRecursion TaskOk tasks.now) (TasksFault guests.now tasks.now) }
 {
     let mut from = 0;
     for (i, g) in guests.iter().enumerate() {

@@ -1,7 +1,7 @@
 // Rules 7 to 10 of a setup: the spare hundredth, and the search for a number of slots in which demand is above supply.
 // No search goes past 217,600 slots; the contracts allow up to 250,000.
 ghost use Rattle.std.specs.Prelude.{◌≡◌, ◌+◌, ◌<◌, ◌≤◌, length, sum_by, MatchOption, MatchResult, nat_le};
-ghost use Rattle.std.specs.List.{AllByRecursion as All};
+ghost use Rattle.std.specs.List.{AllByRecursion};
 ghost use Rattle.decline.specs.Refusals.{by_numbers};
 ghost use Rattle.decline.specs.declared.Decline.TheVariants.{LinkSpare};
 ghost use Rattle.admission.specs.Plan.{cost_of};
@@ -33,7 +33,7 @@ fn leaves_spare(shares: u64, whole: u64) -> bool
 
 // What the servers may need in t slots.
 fn servers_demand(guests: &[Guest], t: u32) -> u32
-    requires ok { All ServerOk guests.now }
+    requires ok { AllByRecursion ServerOk guests.now }
     requires few { length guests.now ≤ 16 }
     requires near { t ≤ 250000 }
     ensures { result ≡ servers_demand guests.now t }
@@ -43,7 +43,7 @@ fn servers_demand(guests: &[Guest], t: u32) -> u32
 
 // What some tasks may need in t slots.
 fn tasks_demand(tasks: &[Task], t: u32) -> u32
-    requires ok { All TaskOk tasks.now }
+    requires ok { AllByRecursion TaskOk tasks.now }
     requires few { length tasks.now ≤ 8 }
     requires near { t ≤ 250000 }
     ensures { result ≡ tasks_demand tasks.now t }
@@ -68,7 +68,7 @@ fn server_supply(g: Guest, t: u32) -> u32
 
 // What some tasks cost together.
 fn costs(tasks: &[Task]) -> u32
-    requires ok { All TaskOk tasks.now }
+    requires ok { AllByRecursion TaskOk tasks.now }
     requires few { length tasks.now ≤ 8 }
     ensures value { result ≡ sum_by cost_of tasks.now }
     ensures bound { result ≤ 128 }
@@ -82,7 +82,7 @@ fn costs(tasks: &[Task]) -> u32
 
 // Rule 7: the servers leave a hundredth of the link to spare in the free slots.
 pub(crate) fn check_link_spare(guests: &[Guest], table: &[u8]) -> Result<(), Decline>
-    requires ok { All ServerOk guests.now }
+    requires ok { AllByRecursion ServerOk guests.now }
     requires few { length guests.now ≤ 16 }
     requires size { TableSizeOk table.now }
     ensures { MatchResult (by_numbers result) (λ _. LinkHasSpare table.now guests.now) (Only (LinkHasSpare table.now guests.now) LinkSpare) }
@@ -97,7 +97,7 @@ pub(crate) fn check_link_spare(guests: &[Guest], table: &[u8]) -> Result<(), Dec
 
 // Rule 8: in no number of slots do the servers need more than the table leaves free. It looks where their demand rises, and stops at 100 times the free bytes.
 pub(crate) fn check_link_demand(guests: &[Guest], table: &[u8]) -> Result<(), Decline>
-    requires ok { All ServerOk guests.now }
+    requires ok { AllByRecursion ServerOk guests.now }
     requires few { length guests.now ≤ 16 }
     requires size { TableSizeOk table.now }
     requires spare { LinkHasSpare table.now guests.now }
@@ -118,7 +118,7 @@ pub(crate) fn check_link_demand(guests: &[Guest], table: &[u8]) -> Result<(), De
 // Whether tasks leave a hundredth of the link to spare in their server's budget.
 fn tasks_have_spare(g: Guest, tasks: &[Task]) -> bool
     requires server { ServerOk g }
-    requires ok { All TaskOk tasks.now }
+    requires ok { AllByRecursion TaskOk tasks.now }
     requires few { length tasks.now ≤ 8 }
     ensures { Tells result (TasksHaveSpare g.period g.budget tasks.now) }
 {
@@ -128,7 +128,7 @@ fn tasks_have_spare(g: Guest, tasks: &[Task]) -> bool
 // The least number of slots in which tasks need more than their server gives. It looks where their demand rises, and stops at 100 times two budgets and the costs.
 fn tasks_short(g: Guest, tasks: &[Task]) -> Option<u32>
     requires server { ServerOk g }
-    requires ok { All TaskOk tasks.now }
+    requires ok { AllByRecursion TaskOk tasks.now }
     requires few { length tasks.now ≤ 8 }
     requires spare { TasksHaveSpare g.period g.budget tasks.now }
     ensures { MatchOption result (TasksServed g.period g.budget tasks.now) (First (TasksServedAt g.period g.budget tasks.now)) }

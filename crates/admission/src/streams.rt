@@ -1,7 +1,7 @@
 // Streams of work, servers and tasks alike: their shares, what they may need, and where that rises.
 // No search goes past 217,600 slots; the contracts allow up to 250,000.
 ghost use Rattle.std.specs.Prelude.{◌≡◌, ◌<◌, ◌≤◌, length};
-ghost use Rattle.std.specs.List.{AllByRecursion as All};
+ghost use Rattle.std.specs.List.{AllByRecursion};
 ghost use Rattle.admission.specs.declared.setup.Task.{Task};
 ghost use Rattle.admission.specs.Demand.{task_demand, share_up};
 ghost use Rattle.admission.specs.Streams.{server_task, StreamOk, StreamsOk, stream_shares, streams_demand, TaskFlat, Flat};
@@ -104,7 +104,7 @@ pub(crate) fn next_step<S: Stream>(streams: &[S], t: u32, end: u32) -> u32
     requires ok { StreamsOk S.task streams.now }
     requires near { (t < end) × (end ≤ 250000) }
     ensures later { (t < result) × (result ≤ end) }
-    ensures flat { All (Flat S.task t result) streams.now }
+    ensures flat { AllByRecursion (Flat S.task t result) streams.now }
 {
     let mut next = end;
     for x in streams {

@@ -1,6 +1,6 @@
 -- Why each row of the table holds.
 use Rattle.std.proofs.Common.{◌≡◌, ℕ, zero, suc, ◌<◌, ◌≤◌, Bool, T, leb, List, [], ◌∷◌, map, length, get_or, refl, inl, inr, zero-le, arith, lit<, lit≤, leb→le}
-use Rattle.std.specs.List.{AllByRecursion as All, range_with_len}
+use Rattle.std.specs.List.{AllByRecursion, range_with_len}
 use Rattle.admission.specs.declared.setup.Operation.TheVariants.{Read}
 use Rattle.admission.specs.Plan.{Plan, guest_at, task_start, operation_start, tasks_of}
 use Rattle.admission.specs.Supply.{supply, least_to, window_free}
@@ -43,7 +43,7 @@ bytes_a : BytesOk table_a 1
 unfolding byte_ok?
 bytes_a = bytes_ok table_a 1 tt
 
-servers_a : (b : ℕ) → 1 ≤ b → b ≤ 10 → All ServerOk (guests_a b)
+servers_a : (b : ℕ) → 1 ≤ b → b ≤ 10 → AllByRecursion ServerOk (guests_a b)
 servers_a b some within =
     (record { some = lit≤ tt; within = lit≤ tt; small = lit≤ tt }, (record { some = some; within = within; small = lit≤ tt }, tt))
 
@@ -56,7 +56,7 @@ windows_a b zero lt = record { fits = record { some = lit≤ tt; within = lit≤
 windows_a b (suc zero) lt = record { fits = record { some = lit≤ tt; within = lit≤ tt }; apart = apart_a b }
 windows_a b (suc (suc i)) lt = absurd (omega arith)
 
-tasks_a_lem : (d : ℕ) → 2 ≤ d → d ≤ 20 → All TaskOk (tasks_a d)
+tasks_a_lem : (d : ℕ) → 2 ≤ d → d ≤ 20 → AllByRecursion TaskOk (tasks_a d)
 tasks_a_lem d due apart = (
   record { some = lit≤ tt; due = due; apart = apart; small = lit≤ tt; cheap = lit≤ tt },
   (record { some = lit≤ tt; due = lit≤ tt; apart = lit≤ tt; small = lit≤ tt; cheap = lit≤ tt }, tt),

@@ -1,5 +1,5 @@
 use Rattle.std.proofs.Common.{subst, arith, take_all}
-use Rattle.std.specs.List.{AllByRecursion as All}
+use Rattle.std.specs.List.{AllByRecursion}
 use Rattle.std.proofs.ByRecursion.{All-get_or, All-more}
 use Rattle.admission.specs.Plan.{no_guest}
 use Rattle.admission.specs.Limits.{FewTasks}
@@ -12,4 +12,4 @@ pub loop-g-preserved : goal.loop-g-preserved
 loop-g-preserved c = All-more FewTasks c.args.guests.now c.loop-g.g-index no_guest c.loop-g-test.true c.loop-g.invariant (omega arith)
 
 pub returns : goal.returns
-returns c = subst (All FewTasks) (take_all _ _ c.loop-g-test.false) c.loop-g.invariant
+returns c = subst (AllByRecursion FewTasks) (take_all _ _ c.loop-g-test.false) c.loop-g.invariant

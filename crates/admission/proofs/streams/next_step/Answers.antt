@@ -1,5 +1,5 @@
 use Rattle.std.proofs.Common.{◌≤◌, take, subst, arith, take_all}
-use Rattle.std.specs.List.{AllByRecursion as All}
+use Rattle.std.specs.List.{AllByRecursion}
 use Rattle.std.proofs.ByRecursion.{All-weaker}
 use Rattle.admission.specs.Streams.{Flat}
 use Rattle.admission.proofs.Items.{item_ok, flat_more}
@@ -25,5 +25,5 @@ loop-x-preserved g c =
 pub returns : goal.returns
 returns g c = record {
   later = (c.loop-x.invariant.0, c.loop-x.invariant.1);
-  flat = subst (All (Flat g.S.Stream.task c.args.t c.loop-x.next)) (take_all _ _ c.loop-x-test.false) c.loop-x.invariant.2;
+  flat = subst (AllByRecursion (Flat g.S.Stream.task c.args.t c.loop-x.next)) (take_all _ _ c.loop-x-test.false) c.loop-x.invariant.2;
 }
