@@ -1,6 +1,5 @@
 -- A plan has one verdict: each rule has one refusal at most, and none where it holds.
 use Rattle.std.proofs.Common.{◌≡◌, ℕ, ◌+◌, ◌-◌, ◌<◌, List, length, sum_by, sym, ap, ◌∙◌, subst, ⊎_elim, arith}
-use native.Mathlib.Decide.{dec_lt}
 use Rattle.std.specs.List.{AllByRecursion}
 use Rattle.std.proofs.ByRecursion.{All-get_or}
 use Rattle.decline.specs.declared.Part.TheVariants.{Registers, Session, Table, FixedOperations, Guests, Tasks, Operations}
@@ -14,7 +13,7 @@ use Rattle.admission.specs.declared.setup.Task.{Task}
 use Rattle.admission.specs.Plan.{Plan, no_guest, no_task, task_count_of, task_start, operation_start, Owns}
 use Rattle.admission.specs.Demand.{LinkHasSpare, LinkServedAt, LinkServed, TasksServed, GuestHasSpare, GuestServedAt}
 use Rattle.admission.specs.Limits.{RegistersOk, SessionOk, TableSizeOk, FixedSizeOk, GuestsSizeOk, TasksAgree, OperationsAgree, SizesOk, ByteOk, BytesOk, ServerOk, WindowOk, WindowsOk, TaskOk, TaskOkAt, FixedOk, FixedsOk, InsideAt, OperationsOk}
-use Rattle.admission.specs.Verdict.{Tried, Only, First, FirstOwned, SizesFault, ServerOkAt, ServersFault, TasksFault, OperationsFault, LinkFault, SparesFault, GuestsFault, GuestsHaveSpare, GuestsServed, Schedulable, ScheduleFault, Accepted}
+use Rattle.admission.specs.Verdict.{Tried, Only, First, FirstOwned, SizesFault, ServerOkAt, ServersFault, TasksFault, OperationsFault, LinkFault, GuestsFault, GuestsHaveSpare, GuestsServed, Schedulable, ScheduleFault, Accepted}
 use Rattle.admission.specs.Laws.{Sharp, OneVerdict}
 use Rattle.admission.proofs.Parts.{neither_less, Grows, task_start_grows, operation_start_grows, owner_one, start_within}
 
