@@ -4,17 +4,25 @@
 mod samples;
 mod verdicts;
 
+use std::alloc::Global;
 use std::io;
-use std::io::BufWriter;
+use std::io::{BufWriter, Write};
+use std::process::ExitCode;
 use verdicts::print_all;
 
-fn main(rt: HostRuntime) -> io::Result<()> {
-    let mut out = BufWriter::new(rt.alloc(), rt.stdout())?;
-    match print_all(&mut out) {
-        Ok(()) => Ok(()),
+// Prints all verdicts through a buffer.
+fn print_buffered<W: Write + Drop>(alloc: Global, out: W) -> io::Result<()> {
+    let mut out = BufWriter::new(alloc, out)?;
+    print_all(&mut out)
+}
+
+// The status is 1 where the verdicts could not be written.
+fn main(rt: HostRuntime) -> ExitCode {
+    match print_buffered(rt.alloc(), rt.stdout()) {
+        Ok(()) => ExitCode::SUCCESS,
         Err(e) => {
             let _ = eprintln!(rt; "admit: {e}");
-            Err(e)
+            ExitCode::FAILURE
         }
     }
 }
