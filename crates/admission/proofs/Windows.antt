@@ -29,7 +29,7 @@ pub least_more : (xs : List ℕ) (t n : ℕ) → least_to xs t (n + 1) ≡ min (
 unfolding least_to
 least_more xs t n = let e : n + 1 ≡ suc n = omega arith in rw e refl
 
--- leastTo is a lower bound, and is attained
+-- least_to is a lower bound, and is attained
 pub least_lower : (xs : List ℕ) (t n k : ℕ) → k ≤ n → least_to xs t n ≤ window_free xs k t
 unfolding least_to
 least_lower xs t zero k h = let e : k ≡ 0 = omega arith in rw e (le_refl (window_free xs 0 t))

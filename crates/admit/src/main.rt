@@ -16,7 +16,7 @@ fn print_buffered<W: Write + Drop>(alloc: Global, out: W) -> io::Result<()> {
     print_all(&mut out)
 }
 
-// The status is 1 where the verdicts could not be written.
+// The status is 1 where the verdicts could not be written, or there was no memory for the buffer.
 fn main(rt: HostRuntime) -> ExitCode {
     match print_buffered(rt.alloc(), rt.stdout()) {
         Ok(()) => ExitCode::SUCCESS,

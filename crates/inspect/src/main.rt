@@ -25,7 +25,7 @@ fn list_buffered<R: Read + Drop, W: Write + Drop>(
     list(&mut input, &mut out)
 }
 
-// The status is 1 where a block was refused, which the listing says, and where the input could not be read or the listing not be written.
+// The status is 1 where a block was refused, which the listing says, and where input, output or memory for the buffers failed.
 fn main(rt: HostRuntime) -> ExitCode {
     match list_buffered(rt.alloc(), rt.stdin(), rt.stdout()) {
         Ok(tally) => {
