@@ -4,44 +4,37 @@
 ghost use Rattle.std.specs.Prelude.{◌≡◌, Some};
 ghost use Rattle.decline.specs.Refusals.{numbers_of, part_number, part_text, refusal_text, sentence_text, SaysWhichRefusal};
 
+use std::error::Error;
 use std::fmt;
 
 // What a limit of a setup is about: the register count of the device, or one of the setup's six parts.
 #[derive(Clone, Copy, PartialEq, Eq, Debug)]
 pub enum Part {
     // How many registers the device has.
-    Registers,
+    Registers = 0,
     // How many slots the session has.
-    Session,
+    Session = 1,
     // The slot table.
-    Table,
+    Table = 2,
     // The fixed operations.
-    FixedOperations,
+    FixedOperations = 3,
     // The guests.
-    Guests,
+    Guests = 4,
     // The tasks of all guests.
-    Tasks,
+    Tasks = 5,
     // The operations of all tasks.
-    Operations,
+    Operations = 6,
 }
 
 impl Part {
-    // The number of this part, from 0, in the order of the variants.
+    // The number of this part, from 0, in the order of the variants. It is asked for by name: as a conversion it would not say which number it is.
     pub fn number(&self) -> u64
         ensures { result ≡ part_number self.now }
     {
-        match *self {
-            Part::Registers => 0,
-            Part::Session => 1,
-            Part::Table => 2,
-            Part::FixedOperations => 3,
-            Part::Guests => 4,
-            Part::Tasks => 5,
-            Part::Operations => 6,
-        }
+        *self as u64
     }
 
-    // What is wrong with this part, as a sentence for a person.
+    // What is wrong with this part, as a sentence for a person. No `Display`: that would be read as the text of a part, and not of its fault.
     fn sentence(&self) -> &'static str
         ensures { result.now ≡ part_text self.now }
     {
@@ -71,7 +64,8 @@ pub enum Decline {
     // A task, counted from 1 within its guest, breaks 1 <= cost <= deadline <= separation <= 16384 or cost <= 16.
     TaskLimits { guest: u32, task: u64 },
     // An operation uses a register outside those of its guest; its position counts from 1 among the operations of all guests.
-    // Guest 0 stands for a fixed operation that uses a register past the device; its position counts from 1 among the fixed ones.
+    // Guest 0 stands for a fixed operation that uses a register past the device; its position counts from 1 among the fixed ones. A variant of its own
+    // would have the same number, and what says which refusal it is would have to know that no guest is 0.
     OperationRegister { guest: u32, position: u64 },
     // The servers do not leave a hundredth of the link to spare in the free slots.
     LinkSpare,
@@ -86,7 +80,7 @@ pub enum Decline {
     BlockSize,
     // The two sums at the end of a journal block are not those of its bytes.
     BlockSums,
-    // A journal block breaks a rule in its header, place 0, or in one of its entry places, counted from 1.
+    // A journal block breaks a rule in its header, place 0, or in one of its entry places, counted from 1. As with guest 0 above, both have one number.
     BlockRule { place: u64 },
 }
 
@@ -99,81 +93,34 @@ pub struct DeclineNumbers {
 }
 
 impl Decline {
-    // The three numbers of this refusal; no other refusal has the same three.
+    // The three numbers of this refusal; no other refusal has the same three. They are asked for by name, as the number of a part is.
     pub fn numbers(&self) -> DeclineNumbers
         ensures value { result ≡ numbers_of self.now }
         ensures distinct { SaysWhichRefusal }
     {
-        match *self {
-            Decline::SetupLimits { part } => DeclineNumbers {
-                number: 1,
-                guest: 0,
-                place: part.number(),
-            },
-            Decline::TableByte { byte } => DeclineNumbers {
-                number: 2,
-                guest: 0,
-                place: byte,
-            },
-            Decline::ServerLimits { guest } => DeclineNumbers {
-                number: 3,
-                guest,
-                place: 0,
-            },
-            Decline::GuestWindow { guest } => DeclineNumbers {
-                number: 4,
-                guest,
-                place: 0,
-            },
-            Decline::TaskLimits { guest, task } => DeclineNumbers {
-                number: 5,
-                guest,
-                place: task,
-            },
-            Decline::OperationRegister { guest, position } => DeclineNumbers {
-                number: 6,
-                guest,
-                place: position,
-            },
-            Decline::LinkSpare => DeclineNumbers {
-                number: 7,
-                guest: 0,
-                place: 0,
-            },
-            Decline::LinkDemand { window } => DeclineNumbers {
-                number: 8,
-                guest: 0,
-                place: window,
-            },
-            Decline::GuestSpare { guest } => DeclineNumbers {
-                number: 9,
-                guest,
-                place: 0,
-            },
-            Decline::GuestDemand { guest, window } => DeclineNumbers {
-                number: 10,
-                guest,
-                place: window,
-            },
-            Decline::BlockSize => DeclineNumbers {
-                number: 19,
-                guest: 0,
-                place: 0,
-            },
-            Decline::BlockSums => DeclineNumbers {
-                number: 20,
-                guest: 0,
-                place: 0,
-            },
-            Decline::BlockRule { place } => DeclineNumbers {
-                number: 21,
-                guest: 0,
-                place,
-            },
+        let (number, guest, place) = match *self {
+            Decline::SetupLimits { part } => (1, 0, part.number()),
+            Decline::TableByte { byte } => (2, 0, byte),
+            Decline::ServerLimits { guest } => (3, guest, 0),
+            Decline::GuestWindow { guest } => (4, guest, 0),
+            Decline::TaskLimits { guest, task } => (5, guest, task),
+            Decline::OperationRegister { guest, position } => (6, guest, position),
+            Decline::LinkSpare => (7, 0, 0),
+            Decline::LinkDemand { window } => (8, 0, window),
+            Decline::GuestSpare { guest } => (9, guest, 0),
+            Decline::GuestDemand { guest, window } => (10, guest, window),
+            Decline::BlockSize => (19, 0, 0),
+            Decline::BlockSums => (20, 0, 0),
+            Decline::BlockRule { place } => (21, 0, place),
+        };
+        DeclineNumbers {
+            number,
+            guest,
+            place,
         }
     }
 
-    // The cause as a sentence for a person.
+    // The cause as a sentence for a person, a text of its own beside that of the refusal.
     pub fn sentence(&self) -> Sentence
         ensures { result.decline ≡ self.now }
     {
@@ -192,10 +139,7 @@ impl fmt::Display for Sentence {
 
     fn fmt<W: fmt::Write>(&self, f: &mut fmt::Formatter<W>) -> fmt::Result {
         match self.decline {
-            Decline::SetupLimits { part } => {
-                let limits = part.sentence();
-                write!(f, "{limits}")
-            }
+            Decline::SetupLimits { part } => f.write_str(part.sentence()),
             Decline::TableByte { byte } => write!(
                 f,
                 "byte {byte} of the slot table names no fixed operation"
@@ -273,3 +217,5 @@ impl fmt::Display for Decline {
         write!(f, "refused {number} {guest} {place}")
     }
 }
+
+impl Error for Decline {}
