@@ -1,13 +1,13 @@
 -- What stands where in the 512 bytes of a block.
 use Rattle.std.proofs.Common.{◌≡◌, ℕ, zero, suc, ◌+◌, ◌-◌, ◌*◌, ◌<◌, ◌≤◌, List, [], ◌∷◌, ◌++◌, length, get_or, take, drop, replicate, sym, refl, ap, ◌∙◌, arith}
 use Rattle.std.specs.List.{flat_map}
-use Rattle.std.proofs.lemmas.List.{take_at, drop_at, append_assoc, get_or-append_right, length-append, drop-drop, drop-append-le, drop-replicate, take-append-le, take-replicate, length-replicate}
+use Rattle.std.proofs.lemmas.List.{take_at, append_assoc, get_or-append_right, length-append, drop-drop, drop-append-le, drop-replicate, take-append-le, take-replicate, length-replicate}
+use Rattle.std.proofs.lemmas.Nat.{from_be_bytes-to_be_bytes_2}
 use Rattle.journal.specs.declared.entries.Entry.{Entry}
 use Rattle.journal.specs.Bytes.{number2}
 use Rattle.journal.specs.Entries.{entry_bytes}
 use Rattle.journal.specs.Sums.{sum_a, sum_b}
 use Rattle.journal.specs.Blocks.{entry_at, first_slot, header_bytes, body_bytes, sum_bytes, block_bytes, place_bytes}
-use Rattle.journal.proofs.Digits.{half_back}
 
 sum_a_small : (xs : List ℕ) → sum_a xs < 65536
 sum_a_small [] = omega arith
@@ -21,30 +21,30 @@ length_joined : (es : List Entry) → length (flat_map entry_bytes es) ≡ 16 * 
 length_joined [] = refl
 length_joined (e ∷ es) = length-append (entry_bytes e) (flat_map entry_bytes es) ∙ omega (arith, length_joined es)
 
+-- one entry on
+joined_step : (e : Entry) (es : List Entry) (k : ℕ) (rest : List ℕ)
+    → take 16 (drop (16 * suc k) (flat_map entry_bytes (e ∷ es) ++ rest)) ≡ take 16 (drop (16 * k) (flat_map entry_bytes es ++ rest))
+joined_step e es k rest =
+    let n : 16 * suc k ≡ 16 + 16 * k = omega arith in
+    ap (λ (m : ℕ). take 16 (drop m (flat_map entry_bytes (e ∷ es) ++ rest))) n
+    ∙ ap (take 16) (sym (drop-drop (16 * k) 16 (flat_map entry_bytes (e ∷ es) ++ rest)))
+
 joined_place : (es : List Entry) (k : ℕ) (rest : List ℕ) → k < length es → take 16 (drop (16 * k) (flat_map entry_bytes es ++ rest)) ≡ entry_bytes (entry_at es k)
 joined_place [] k rest h = absurd (omega arith)
 joined_place (e ∷ es) zero rest h = refl
-joined_place (e ∷ es) (suc k) rest h =
-    let n : 16 * suc k ≡ 16 + 16 * k = omega arith in
-    let l : k < length es = omega arith in
-    ap (λ (m : ℕ). take 16 (drop m (flat_map entry_bytes (e ∷ es) ++ rest))) n
-    ∙ ap (take 16) (sym (drop-drop (16 * k) 16 (flat_map entry_bytes (e ∷ es) ++ rest)))
-    ∙ joined_place es k rest l
+joined_place (e ∷ es) (suc k) rest h = joined_step e es k rest ∙ joined_place es k rest (omega arith)
 
 joined_zeros : (es : List Entry) (k m : ℕ) (rest : List ℕ) → length es ≤ k → 16 * (k - length es) + 16 ≤ m
     → take 16 (drop (16 * k) (flat_map entry_bytes es ++ (replicate m 0 ++ rest))) ≡ replicate 16 0
-joined_zeros es k m rest h l =
-    let n : 16 * k ≡ length (flat_map entry_bytes es) + 16 * (k - length es) = omega (arith, length_joined es) in
-    let a : 16 * (k - length es) ≤ length (replicate {A = ℕ} m 0) = simp length-replicate (omega arith) in
-    let b : 16 ≤ length (replicate {A = ℕ} (m - 16 * (k - length es)) 0) = simp length-replicate (omega arith) in
-    let c : 16 ≤ m - 16 * (k - length es) = omega arith in
-    ap (λ (j : ℕ). take 16 (drop j (flat_map entry_bytes es ++ (replicate m 0 ++ rest)))) n
-    ∙ ap (take 16) (sym (drop-drop (16 * (k - length es)) (length (flat_map entry_bytes es)) (flat_map entry_bytes es ++ (replicate m 0 ++ rest))))
-    ∙ ap (λ (q : List ℕ). take 16 (drop (16 * (k - length es)) q)) (drop_at (flat_map entry_bytes es) (replicate m 0 ++ rest) (length (flat_map entry_bytes es)) refl)
-    ∙ ap (take 16) (drop-append-le (16 * (k - length es)) (replicate m 0) rest a)
-    ∙ ap (λ (q : List ℕ). take 16 (q ++ rest)) (drop-replicate (16 * (k - length es)) m 0)
-    ∙ take-append-le 16 (replicate (m - 16 * (k - length es)) 0) rest b
-    ∙ take-replicate 16 (m - 16 * (k - length es)) 0 c
+joined_zeros [] k m rest h l =
+    let a : 16 * k ≤ length (replicate {A = ℕ} m 0) = simp length-replicate (omega arith) in
+    let b : 16 ≤ length (replicate {A = ℕ} (m - 16 * k) 0) = simp length-replicate (omega arith) in
+    ap (take 16) (drop-append-le (16 * k) (replicate m 0) rest a)
+    ∙ ap (λ (q : List ℕ). take 16 (q ++ rest)) (drop-replicate (16 * k) m 0)
+    ∙ take-append-le 16 (replicate (m - 16 * k) 0) rest b
+    ∙ take-replicate 16 (m - 16 * k) 0 (omega arith)
+joined_zeros (e ∷ es) zero m rest h l = absurd (omega arith)
+joined_zeros (e ∷ es) (suc k) m rest h l = joined_step e es k (replicate m 0 ++ rest) ∙ joined_zeros es k m rest (omega arith) (omega arith)
 
 module _ (number : ℕ) (es : List Entry) where
   place_is : (k : ℕ)
@@ -80,6 +80,6 @@ sums_made body n =
     let g1 = g 509 (omega arith) in
     let g2 = g 510 (omega arith) in
     let g3 = g 511 (omega arith) in (
-      omega (arith, g0, g1, half_back (sum_a body) (sum_a_small body)) ∙ sym (ap sum_a t),
-      omega (arith, g2, g3, half_back (sum_b body) (sum_b_small body)) ∙ sym (ap sum_b t),
+      omega (arith, g0, g1, from_be_bytes-to_be_bytes_2 (sum_a body) (sum_a_small body)) ∙ sym (ap sum_a t),
+      omega (arith, g2, g3, from_be_bytes-to_be_bytes_2 (sum_b body) (sum_b_small body)) ∙ sym (ap sum_b t),
     )

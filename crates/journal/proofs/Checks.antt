@@ -1,9 +1,8 @@
 -- What the rules of the format say of a block or of entries, by the checks that passed or failed.
-use Rattle.std.proofs.Common.{◌≡◌, ℕ, ◌<◌, Bool, true, false, List, length, Some, None, Ok, Err, Option, Result, sym, refl, ap, ◌∙◌, zero-le, arith}
+use Rattle.std.proofs.Common.{◌≡◌, ℕ, ◌<◌, Bool, true, false, List, length, Some, None, Ok, Option, Result, sym, refl, ap, ◌∙◌, zero-le, arith}
 use Rattle.decline.specs.declared.Decline.{Decline}
 use Rattle.decline.specs.declared.Decline.TheVariants.{BlockSums, BlockRule}
 use Rattle.decline.specs.declared.DeclineNumbers.{DeclineNumbers}
-use Rattle.decline.specs.Refusals.{numbers_of}
 use Rattle.journal.specs.declared.entries.Entry.{Entry}
 use Rattle.journal.specs.declared.blocks.Heading.{Heading}
 use Rattle.journal.specs.Bytes.{number4}
@@ -12,12 +11,9 @@ use Rattle.journal.specs.Calls.{only_if, unless_at, entries_answer, block_answer
 use Rattle.journal.proofs.Failing.{failing_none, passing}
 
 module _ {X : Type 0} where
-  -- a test that holds, and one that does not
+  -- a test that holds
   pub only_if_true : (t : Bool) (d : Decline) (r : Result X DeclineNumbers) → t ≡ true → only_if t d r ≡ r
   only_if_true t d r h = rw h
-
-  pub only_if_false : (t : Bool) (d : Decline) (r : Result X DeclineNumbers) → t ≡ false → only_if t d r ≡ Err (numbers_of d)
-  only_if_false t d r h = rw h
 
   -- an answer that is no refusal has passed the test
   pub only_if_ok : (t : Bool) (d : Decline) (r : Result X DeclineNumbers) (x : X) → only_if t d r ≡ Ok x → (t ≡ true) × (r ≡ Ok x)
@@ -39,24 +35,11 @@ pub record Good (block : List ℕ) : Type 0 where
   pub places : (k : ℕ) → k < 31 → place_lawful block k ≡ true
 
 module _ (block : List ℕ) where
-  pub refuse_sums : sums_agree block ≡ false → block_answer block ≡ Err (numbers_of BlockSums)
-  unfolding block_answer
-  refuse_sums s = only_if_false (sums_agree block) BlockSums _ s
-
-  pub refuse_header : sums_agree block ≡ true → header_lawful block ≡ false → block_answer block ≡ Err (numbers_of (BlockRule 0))
-  unfolding block_answer
-  refuse_header s h = only_if_true (sums_agree block) BlockSums _ s ∙ only_if_false (header_lawful block) (BlockRule 0) _ h
-
-  -- past the sums and the header the places decide
-  pub by_places : (o : Option ℕ) → sums_agree block ≡ true → header_lawful block ≡ true → o ≡ first_failing (place_lawful block) 0 31
-      → unless_at o (Ok (heading_in block)) ≡ block_answer block
-  unfolding block_answer
-  by_places o s h e =
-      sym (only_if_true (sums_agree block) BlockSums _ s ∙ only_if_true (header_lawful block) (BlockRule 0) _ h
-      ∙ ap (λ (q : Option ℕ). unless_at q (Ok (heading_in block))) (sym e))
-
   pub good_answer : Good block → block_answer block ≡ Ok (heading_in block)
-  good_answer g = sym (by_places None g.sums g.header (sym (failing_none (place_lawful block) 31 0 g.places)))
+  unfolding block_answer
+  good_answer g =
+      only_if_true (sums_agree block) BlockSums _ g.sums ∙ only_if_true (header_lawful block) (BlockRule 0) _ g.header
+      ∙ ap (λ (q : Option ℕ). unless_at q (Ok (heading_in block))) (failing_none (place_lawful block) 31 0 g.places)
 
   pub answer_good : (h : Heading) → block_answer block ≡ Ok h → Good block × (h ≡ heading_in block)
   unfolding block_answer
@@ -67,8 +50,7 @@ module _ (block : List ℕ) where
       let same : heading_in block ≡ h = cc u.1 in
       (record { sums = s.0; header = t.0; places = λ k lt. passing (place_lawful block) 31 0 u.0 k zero-le lt }, sym same)
 
-module _ (es : List Entry) where
-  -- the entries decide
-  pub by_entries : (o : Option ℕ) → o ≡ first_failing (entry_fits es) 0 (length es) → unless_at o (Ok tt) ≡ entries_answer es
-  unfolding entries_answer
-  by_entries o e = ap (λ (q : Option ℕ). unless_at q (Ok tt)) e
+-- entries that each fit their place are taken
+pub entries_taken : (es : List Entry) → ((k : ℕ) → k < length es → entry_fits es k ≡ true) → entries_answer es ≡ Ok tt
+unfolding entries_answer
+entries_taken es fit = ap (λ (q : Option ℕ). unless_at q (Ok tt)) (failing_none (entry_fits es) (length es) 0 (λ k lt. fit k (omega arith)))

@@ -1,4 +1,4 @@
--- A number and its bytes, the high byte first, each from the other.
+-- Bytes, and the numbers that they spell.
 use Rattle.std.proofs.Common.{◌≡◌, ℕ, zero, suc, ◌+◌, ◌*◌, ◌/◌, ◌%◌, ◌<◌, ◌≤◌, List, [], ◌∷◌, length, get_or, take, drop, sym, refl, ap, ◌∙◌, arith}
 use Rattle.std.proofs.lemmas.List.{drop_more}
 use Rattle.journal.specs.Bytes.{bytes2, bytes4}
@@ -7,6 +7,7 @@ use Rattle.journal.specs.Bytes.{bytes2, bytes4}
 abbrev pub Bytes : List ℕ → Type 0
 Bytes bs = (i : ℕ) → get_or bs i 0 < 256
 
+-- four bytes that are read one by one, and their number; the library says it of a list of four
 pub digits4 : (a b c d : ℕ) → a < 256 → b < 256 → c < 256 → d < 256 → bytes4 (a * 16777216 + b * 65536 + c * 256 + d) ≡ a ∷ b ∷ c ∷ d ∷ []
 digits4 a b c d ha hb hc hd =
     let n : ℕ = a * 16777216 + b * 65536 + c * 256 + d in
@@ -22,21 +23,6 @@ digits2 a b ha hb =
     let e0 : n / 256 % 256 ≡ a = omega arith in
     let e1 : n % 256 ≡ b = omega arith in
     cc
-
-horner : (n a b c r₀ r₁ r₂ : ℕ) → a * 256 + r₀ ≡ n → b * 256 + r₁ ≡ a → c * 256 + r₂ ≡ b → c * 16777216 + r₂ * 65536 + r₁ * 256 + r₀ ≡ n
-horner n a b c r₀ r₁ r₂ h₀ h₁ h₂ = omega arith
-
--- a number comes back from its four bytes, and from its two
-pub word_back : (n : ℕ) → n < 4294967296 → (n / 16777216 % 256) * 16777216 + (n / 65536 % 256) * 65536 + (n / 256 % 256) * 256 + n % 256 ≡ n
-word_back n h =
-    let top : n / 16777216 % 256 ≡ n / 16777216 = omega arith in
-    let b : n / 65536 * 256 + n / 256 % 256 ≡ n / 256 = omega arith in
-    let c : n / 16777216 * 256 + n / 65536 % 256 ≡ n / 65536 = omega arith in
-    ap (λ (x : ℕ). x * 16777216 + (n / 65536 % 256) * 65536 + (n / 256 % 256) * 256 + n % 256) top
-    ∙ horner n (n / 256) (n / 65536) (n / 16777216) (n % 256) (n / 256 % 256) (n / 65536 % 256) (omega arith) b c
-
-pub half_back : (n : ℕ) → n < 65536 → (n / 256 % 256) * 256 + n % 256 ≡ n
-half_back n h = omega arith
 
 -- n numbers of a list from i on, one by one
 abbrev pub spelled : ℕ → ℕ → List ℕ → List ℕ

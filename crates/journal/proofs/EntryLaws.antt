@@ -1,8 +1,9 @@
 -- Entries, their nine fields and their sixteen bytes, each from the other.
-use Rattle.std.proofs.Common.{◌≡◌, ℕ, ◌<◌, ◌≤◌, Bool, true, cond, ◌&&◌, eqb, ltb, ◌⊎◌, List, ◌∷◌, ◌++◌, length, get_or, sym, refl, ap, ◌∙◌, inl, inr, arith}
+use Rattle.std.proofs.Common.{◌≡◌, ◌≢◌, ℕ, ◌<◌, ◌≤◌, Bool, true, cond, ◌&&◌, eqb, ltb, List, length, get_or, sym, refl, ap, ◌∙◌, inl, inr, arith}
 use Rattle.std.proofs.lemmas.List.{take_all}
 use Rattle.std.proofs.lemmas.Bool.{cases_eq, ltb-true, and_parts}
 use Rattle.std.proofs.lemmas.Bool.Decides.{nat_tests}
+use Rattle.std.proofs.lemmas.Nat.{from_be_bytes-to_be_bytes_2, from_be_bytes-to_be_bytes_4}
 use Rattle.journal.specs.declared.entries.Outcome.{Outcome}
 use Rattle.journal.specs.declared.entries.Outcome.TheVariants.{Written, Read, Refused}
 use Rattle.journal.specs.declared.entries.Access.{Access}
@@ -10,9 +11,8 @@ use Rattle.journal.specs.declared.entries.Event.{Event}
 use Rattle.journal.specs.declared.entries.Event.TheVariants.{Unassigned, Fixed, Used, Idle}
 use Rattle.journal.specs.declared.entries.Entry.{Entry}
 use Rattle.journal.specs.declared.fields.Fields.{Fields}
-use Rattle.journal.specs.Bytes.{bytes2, bytes4, number2, number4}
-use Rattle.journal.specs.Entries.{outcome_number, outcome_from, fields_of, field_bytes, fields_at, lawful, unassigned_fields, fixed_fields, used_fields, idle_fields, access_from, event_from, entry_from}
-use Rattle.journal.proofs.Digits.{Bytes, digits2, digits4, word_back, half_back, spelled, spelled_is}
+use Rattle.journal.specs.Entries.{outcome_number, outcome_from, fields_of, field_bytes, fields_at, lawful, access_from, event_from, entry_from}
+use Rattle.journal.proofs.Digits.{Bytes, digits2, digits4, spelled, spelled_is}
 
 -- sixteen bytes come back from their fields
 pub part_back : (bs : List ℕ) → length bs ≡ 16 → Bytes bs → field_bytes (fields_at bs) ≡ bs
@@ -20,21 +20,8 @@ part_back bs n h =
     let s = digits4 (get_or bs 0 0) (get_or bs 1 0) (get_or bs 2 0) (get_or bs 3 0) (h 0) (h 1) (h 2) (h 3) in
     let v = digits2 (get_or bs 10 0) (get_or bs 11 0) (h 10) (h 11) in
     let d = digits4 (get_or bs 12 0) (get_or bs 13 0) (get_or bs 14 0) (get_or bs 15 0) (h 12) (h 13) (h 14) (h 15) in
-    let mid : List ℕ → List ℕ = λ q. get_or bs 4 0 ∷ get_or bs 5 0 ∷ get_or bs 6 0 ∷ get_or bs 7 0 ∷ get_or bs 8 0 ∷ get_or bs 9 0 ∷ q in
-    let e : field_bytes (fields_at bs) ≡ spelled 16 0 bs =
-    ap (λ (q : List ℕ). q ++ mid (bytes2 (number2 bs 10) ++ bytes4 (number4 bs 12))) s
-    ∙ ap (λ (q : List ℕ). get_or bs 0 0 ∷ get_or bs 1 0 ∷ get_or bs 2 0 ∷ get_or bs 3 0 ∷ mid (q ++ bytes4 (number4 bs 12))) v
-    ∙ ap (λ (q : List ℕ). get_or bs 0 0 ∷ get_or bs 1 0 ∷ get_or bs 2 0 ∷ get_or bs 3 0 ∷ mid (get_or bs 10 0 ∷ get_or bs 11 0 ∷ q)) d in
+    let e : field_bytes (fields_at bs) ≡ spelled 16 0 bs = cc in
     e ∙ spelled_is 16 0 bs (omega arith) ∙ take_all 16 bs (omega arith)
-
--- the slot of an entry is that of its fields
-pub slot_of : (e : Entry) → (fields_of e).slot ≡ e.slot
-slot_of e = elim e.event as (λ x. (fields_of (record { slot = e.slot; event = x })).slot ≡ e.slot) [
-  | Unassigned ↦ refl
-  | Fixed p a ↦ refl
-  | Used g t p a d ↦ refl
-  | Idle g ↦ refl
-]
 
 outcome_back : (o : Outcome) → outcome_from (outcome_number o) ≡ o
 outcome_back Written = refl
@@ -53,6 +40,10 @@ entry_back e = elim e.event as (λ x. entry_from (fields_of (record { slot = e.s
   | Idle g ↦ refl
 ]
 
+-- the slot of an entry is that of its fields
+pub slot_of : (e : Entry) → (fields_of e).slot ≡ e.slot
+slot_of e = ap (λ (x : Entry). x.slot) (entry_back e)
+
 number_back : (n : ℕ) → 1 ≤ n → n ≤ 3 → outcome_number (outcome_from n) ≡ n
 number_back n lo hi =
     elim (cases_eq n 1) [
@@ -67,71 +58,37 @@ pub data Shape (f : Fields) : Type 0 where
   used : f.kind ≡ 2 → 1 ≤ f.outcome → f.outcome ≤ 3 → f.value < 65536 → f.deadline < 4294967296 → Shape f
   idle : f.kind ≡ 3 → f.item ≡ 0 → f.position ≡ 0 → f.register ≡ 0 → f.outcome ≡ 0 → f.value ≡ 0 → f.deadline ≡ 0 → Shape f
 
-by_kind : (k : ℕ) (u x s i : Bool) → cond (eqb k 0) u (cond (eqb k 1) x (cond (eqb k 2) s (eqb k 3 && i))) ≡ true
-    → ((k ≡ 0) × (u ≡ true)) ⊎ (((k ≡ 1) × (x ≡ true)) ⊎ (((k ≡ 2) × (s ≡ true)) ⊎ ((k ≡ 3) × (i ≡ true))))
-by_kind k u x s i h =
-    elim (cases_eq k 0) [
-      | inl e ↦ inl (e, rw e at h)
-      | inr n0 ↦ elim (cases_eq k 1) [
-        | inl e ↦ inr (inl (e, rw e at h))
-        | inr n1 ↦ elim (cases_eq k 2) [
-          | inl e ↦ inr (inr (inl (e, rw e at h)))
-          | inr n2 ↦ (let e : k ≡ 3 = grind (arith, nat_tests) in inr (inr (inr (e, rw e at h))))
-        ]
-      ]
-    ]
+last_kind : (k : ℕ) (u x s i : Bool) → cond (eqb k 0) u (cond (eqb k 1) x (cond (eqb k 2) s (eqb k 3 && i))) ≡ true → k ≢ 0 → k ≢ 1 → k ≢ 2 → k ≡ 3
+last_kind k u x s i h n0 n1 n2 = grind (arith, nat_tests)
 
 -- the rules as plain facts
 pub slot_small : (f : Fields) → lawful f ≡ true → f.slot < 16777216
 slot_small f h = ltb-true _ _ (and_parts _ _ h).0
 
-module _ (f : Fields) where
-  of_unassigned : f.kind ≡ 0 → unassigned_fields f ≡ true → Shape f
-  of_unassigned k h =
-      let g : f.guest ≡ 0 = grind (arith, nat_tests) in
-      let i : f.item ≡ 0 = grind (arith, nat_tests) in
-      let p : f.position ≡ 0 = grind (arith, nat_tests) in
-      let r : f.register ≡ 0 = grind (arith, nat_tests) in
-      let o : f.outcome ≡ 0 = grind (arith, nat_tests) in
-      let v : f.value ≡ 0 = grind (arith, nat_tests) in
-      let d : f.deadline ≡ 0 = grind (arith, nat_tests) in
-      unassigned k g i p r o v d
+module _ (f : Fields) (h : lawful f ≡ true) where
+  of_unassigned : f.kind ≡ 0 → Shape f
+  of_unassigned k =
+      unassigned k (grind (arith, nat_tests)) (grind (arith, nat_tests)) (grind (arith, nat_tests)) (grind (arith, nat_tests)) (grind (arith, nat_tests)) (grind (arith, nat_tests)) (grind (arith, nat_tests))
 
-  of_fixed : f.kind ≡ 1 → fixed_fields f ≡ true → Shape f
-  of_fixed k h =
-      let g : f.guest ≡ 0 = grind (arith, nat_tests) in
-      let p : f.position ≡ 0 = grind (arith, nat_tests) in
-      let lo : 1 ≤ f.outcome = grind (arith, nat_tests) in
-      let hi : f.outcome ≤ 3 = grind (arith, nat_tests) in
-      let v : f.value < 65536 = grind (arith, nat_tests) in
-      let d : f.deadline ≡ 0 = grind (arith, nat_tests) in
-      fixed k g p lo hi v d
+  of_fixed : f.kind ≡ 1 → Shape f
+  of_fixed k =
+      fixed k (grind (arith, nat_tests)) (grind (arith, nat_tests)) (grind (arith, nat_tests)) (grind (arith, nat_tests)) (grind (arith, nat_tests)) (grind (arith, nat_tests))
 
-  of_used : f.kind ≡ 2 → used_fields f ≡ true → Shape f
-  of_used k h =
-      let lo : 1 ≤ f.outcome = grind (arith, nat_tests) in
-      let hi : f.outcome ≤ 3 = grind (arith, nat_tests) in
-      let v : f.value < 65536 = grind (arith, nat_tests) in
-      let d : f.deadline < 4294967296 = grind (arith, nat_tests) in
-      used k lo hi v d
+  of_used : f.kind ≡ 2 → Shape f
+  of_used k =
+      used k (grind (arith, nat_tests)) (grind (arith, nat_tests)) (grind (arith, nat_tests)) (grind (arith, nat_tests))
 
-  of_idle : f.kind ≡ 3 → idle_fields f ≡ true → Shape f
-  of_idle k h =
-      let i : f.item ≡ 0 = grind (arith, nat_tests) in
-      let p : f.position ≡ 0 = grind (arith, nat_tests) in
-      let r : f.register ≡ 0 = grind (arith, nat_tests) in
-      let o : f.outcome ≡ 0 = grind (arith, nat_tests) in
-      let v : f.value ≡ 0 = grind (arith, nat_tests) in
-      let d : f.deadline ≡ 0 = grind (arith, nat_tests) in
-      idle k i p r o v d
+  of_idle : f.kind ≡ 3 → Shape f
+  of_idle k =
+      idle k (grind (arith, nat_tests)) (grind (arith, nat_tests)) (grind (arith, nat_tests)) (grind (arith, nat_tests)) (grind (arith, nat_tests)) (grind (arith, nat_tests))
 
-  pub shape : lawful f ≡ true → Shape f
-  shape h =
-      elim (by_kind f.kind (unassigned_fields f) (fixed_fields f) (used_fields f) (idle_fields f) (and_parts (ltb f.slot 16777216) _ h).1) [
-        | inl u ↦ of_unassigned u.0 u.1
-        | inr v ↦ elim v [
-          | inl u ↦ of_fixed u.0 u.1
-          | inr v ↦ elim v [ inl u ↦ of_used u.0 u.1 | inr u ↦ of_idle u.0 u.1 ]
+  pub shape : Shape f
+  shape =
+      elim (cases_eq f.kind 0) [
+        | inl k ↦ of_unassigned k
+        | inr n0 ↦ elim (cases_eq f.kind 1) [
+          | inl k ↦ of_fixed k
+          | inr n1 ↦ elim (cases_eq f.kind 2) [ inl k ↦ of_used k | inr n2 ↦ of_idle (last_kind f.kind _ _ _ _ (and_parts (ltb f.slot 16777216) _ h).1 n0 n1 n2) ]
         ]
       ]
 
@@ -178,5 +135,5 @@ module _ (f : Fields) where
   -- fields that keep the rules come back from their sixteen bytes
   pub bytes_back : lawful f ≡ true → fields_at (field_bytes f) ≡ f
   bytes_back h =
-      fields_same (fields_at (field_bytes f)) f (word_back f.slot (omega (arith, slot_small f h))) refl refl refl refl refl refl
-      (half_back f.value (value_small (shape f h))) (word_back f.deadline (deadline_small (shape f h)))
+      fields_same (fields_at (field_bytes f)) f (from_be_bytes-to_be_bytes_4 f.slot (omega (arith, slot_small f h))) refl refl refl refl refl refl
+      (from_be_bytes-to_be_bytes_2 f.value (value_small (shape f h))) (from_be_bytes-to_be_bytes_4 f.deadline (deadline_small (shape f h)))

@@ -7,17 +7,17 @@ use Rattle.journal.specs.declared.entries.Entry.{Entry}
 use Rattle.journal.specs.Blocks.{entry_at, entry_in, entries_in, header_bytes, first_slot, sum_bytes, block_bytes, body_bytes}
 use Rattle.journal.specs.Entries.{entry_bytes}
 
--- a block known up to a is known up to m after bytes are put at a
-pub grown : (b b' p xs : List ℕ) (a m : ℕ) → take a b ≡ p → take (a + length xs) b' ≡ take a b ++ xs → a + length xs ≡ m → take m b' ≡ p ++ xs
-grown b b' p xs a m e h n = rw (← n) (h ∙ ap (λ (q : List ℕ). q ++ xs) e)
+-- a block known up to a is known up to m after n bytes are put at a
+pub grown : (b b' p xs : List ℕ) (a n m : ℕ) → take a b ≡ p → take (a + n) b' ≡ take a b ++ xs → a + n ≡ m → take m b' ≡ p ++ xs
+grown b b' p xs a n m e h s = rw (← s) (h ∙ ap (λ (q : List ℕ). q ++ xs) e)
 
 -- one entry more
-pub entries_more : (b b' p xs : List ℕ) (es : List Entry) (k : ℕ) → k < length es → xs ≡ entry_bytes (entry_at es k) → length xs ≡ 16
+pub entries_more : (b b' p xs : List ℕ) (es : List Entry) (k : ℕ) → k < length es → xs ≡ entry_bytes (entry_at es k)
     → take (12 + 16 * k) b ≡ p ++ flat_map entry_bytes (take k es)
-    → take (12 + 16 * k + length xs) b' ≡ take (12 + 16 * k) b ++ xs
+    → take (12 + 16 * k + 16) b' ≡ take (12 + 16 * k) b ++ xs
     → take (12 + 16 * (k + 1)) b' ≡ p ++ flat_map entry_bytes (take (k + 1) es)
-entries_more b b' p xs es k lt e n inv h =
-    grown b b' (p ++ flat_map entry_bytes (take k es)) xs (12 + 16 * k) (12 + 16 * (k + 1)) inv h (omega arith)
+entries_more b b' p xs es k lt e inv h =
+    grown b b' (p ++ flat_map entry_bytes (take k es)) xs (12 + 16 * k) 16 (12 + 16 * (k + 1)) inv h (omega arith)
     ∙ ap (λ (q : List ℕ). (p ++ flat_map entry_bytes (take k es)) ++ q) e
     ∙ flat_map_more entry_bytes p (take k es) (entry_at es k)
     ∙ ap (λ (q : List Entry). p ++ flat_map entry_bytes q) (sym (take_more es k _ lt))

@@ -1,18 +1,19 @@
 -- The bytes of a block that is written read back, and what does not read was not written.
-use Rattle.std.proofs.Common.{◌≡◌, ℕ, ◌+◌, ◌<◌, ◌≤◌, true, eqb, ltb, leb, List, ◌++◌, length, drop, replicate, Ok, Err, Result, sym, refl, ap, ◌∙◌, subst, inl, inr, zero-le, arith}
+use Rattle.std.proofs.Common.{◌≡◌, ℕ, ◌+◌, ◌<◌, ◌≤◌, true, ltb, List, ◌++◌, length, drop, replicate, Ok, Err, Result, sym, refl, ap, ◌∙◌, subst, inl, inr, zero-le, arith}
 use Rattle.std.proofs.lemmas.List.{ext_get_or}
 use Rattle.std.proofs.lemmas.List.FromFn.{length-map-range_with_len, get_or-map-range_with_len}
-use Rattle.std.proofs.lemmas.Bool.{cases_lt, cond-true, cond-false, and_from, and_parts, eq-eqb, le-leb, lt-ltb, le-ltb, leb-true}
+use Rattle.std.proofs.lemmas.Bool.Decides.{nat_tests}
+use Rattle.std.proofs.lemmas.Bool.{cases_lt, cond-true, cond-false, and_from, and_parts, eq-eqb, lt-ltb, le-ltb}
 use Rattle.decline.specs.declared.Decline.TheVariants.{BlockSize}
 use Rattle.decline.specs.declared.DeclineNumbers.{DeclineNumbers}
+use Rattle.std.proofs.lemmas.Nat.{from_be_bytes-to_be_bytes_2, from_be_bytes-to_be_bytes_4}
 use Rattle.journal.specs.declared.entries.Event.TheVariants.{Unassigned}
 use Rattle.journal.specs.declared.entries.Entry.{Entry}
 use Rattle.journal.specs.declared.blocks.Heading.{Heading}
 use Rattle.journal.specs.Bytes.{number2}
-use Rattle.journal.specs.Entries.{fields_of, fields_at, entry_from, lawful, fits, within}
+use Rattle.journal.specs.Entries.{fields_of, fields_at, entry_from, lawful, fits}
 use Rattle.journal.specs.Blocks.{entry_at, first_slot, body_bytes, block_bytes, place_bytes, count_in, first_slot_in, entry_in, entries_in, all_zero, entry_fits, header_lawful, place_lawful, first_failing}
 use Rattle.journal.specs.Calls.{write_sized, entries_answer, write_answer, block_left, block_answer, read_answer, read_sized, places_left, ReadsBack, NeverWritten}
-use Rattle.journal.proofs.Digits.{word_back, half_back}
 use Rattle.journal.proofs.EntryLaws.{slot_of, slot_small, entry_back, bytes_back}
 use Rattle.journal.proofs.BlockLaws.{place_used, place_unused, length_body, length_block, sums_made}
 use Rattle.journal.proofs.Checks.{Good, good_answer, only_if_true, only_if_ok, unless_ok}
@@ -20,69 +21,71 @@ use Rattle.journal.proofs.Failing.{passing}
 
 module _ (number : ℕ) (es : List Entry) (small : number < 4294967296) (some : 1 ≤ length es) (few : length es ≤ 31)
     (fit : (k : ℕ) → k < length es → entry_fits es k ≡ true) where
+  abbrev block : List ℕ
+  block = block_bytes number es
+
   kept : (k : ℕ) → k < length es → lawful (fields_of (entry_at es k)) ≡ true
   kept k lt = (and_parts (lawful (fields_of (entry_at es k))) _ (fit k lt)).0
 
   first_small : first_slot es < 16777216
   first_small = omega (arith, slot_small (fields_of (entry_at es 0)) (kept 0 some), slot_of (entry_at es 0))
 
-  count_is : count_in (block_bytes number es) ≡ length es
-  count_is = half_back (length es) (omega arith)
+  count_is : count_in block ≡ length es
+  count_is = from_be_bytes-to_be_bytes_2 (length es) (omega arith)
 
-  first_is : first_slot_in (block_bytes number es) ≡ first_slot es
-  first_is = word_back (first_slot es) (omega (arith, first_small))
+  first_is : first_slot_in block ≡ first_slot es
+  first_is = from_be_bytes-to_be_bytes_4 (first_slot es) (omega (arith, first_small))
 
-  fields_are : (k : ℕ) → k < length es → fields_at (place_bytes (block_bytes number es) k) ≡ fields_of (entry_at es k)
+  fields_are : (k : ℕ) → k < length es → fields_at (place_bytes block k) ≡ fields_of (entry_at es k)
   fields_are k lt = ap fields_at (place_used number es k lt) ∙ bytes_back (fields_of (entry_at es k)) (kept k lt)
 
-  header_good : header_lawful (block_bytes number es) ≡ true
+  header_good : header_lawful block ≡ true
   header_good =
-      let c = count_is in
-      let f = first_is in
-      let s = first_small in
-      let lo : 1 ≤ count_in (block_bytes number es) = subst (λ (n : ℕ). 1 ≤ n) (sym c) some in
-      let hi : count_in (block_bytes number es) ≤ 31 = subst (λ (n : ℕ). n ≤ 31) (sym c) few in
-      let low : first_slot_in (block_bytes number es) < 16777216 = subst (λ (n : ℕ). n < 16777216) (sym f) s in
-      and_from _ _ (and_from _ _ (le-leb 1 _ lo) (le-leb _ 31 hi)) (and_from _ _ (eq-eqb (number2 (block_bytes number es) 6) 0 refl) (lt-ltb _ 16777216 low))
+      let count = count_is in
+      let first = first_is in
+      let small = first_small in
+      let gap : number2 block 6 ≡ 0 = refl in
+      grind (arith, nat_tests)
 
-  place_good : (k : ℕ) → k < 31 → place_lawful (block_bytes number es) k ≡ true
+  place_good : (k : ℕ) → k < 31 → place_lawful block k ≡ true
   place_good k lt =
       let c = count_is in
       elim (cases_lt k (length es)) [
         | inl used ↦
-            (let below : k < count_in (block_bytes number es) = subst (λ (n : ℕ). k < n) (sym c) used in
-            cond-true (ltb k (count_in (block_bytes number es))) _ _ (lt-ltb k _ below)
-            ∙ ap (λ (n : ℕ). fits (n + k) (fields_at (place_bytes (block_bytes number es) k))) first_is
+            (let below : k < count_in block = subst (λ (n : ℕ). k < n) (sym c) used in
+            cond-true (ltb k (count_in block)) _ _ (lt-ltb k _ below)
+            ∙ ap (λ (n : ℕ). fits (n + k) (fields_at (place_bytes block k))) first_is
             ∙ ap (fits (first_slot es + k)) (fields_are k used)
             ∙ fit k used)
         | inr unused ↦
-            (let past : count_in (block_bytes number es) ≤ k = subst (λ (n : ℕ). n ≤ k) (sym c) unused in
-            cond-false (ltb k (count_in (block_bytes number es))) _ _ (le-ltb k _ past)
+            (let past : count_in block ≤ k = subst (λ (n : ℕ). n ≤ k) (sym c) unused in
+            cond-false (ltb k (count_in block)) _ _ (le-ltb k _ past)
             ∙ ap all_zero (place_unused number es k unused lt))
       ]
 
-  good : Good (block_bytes number es)
+  good : Good block
   good =
       let s = sums_made (body_bytes number es) (length_body number es few) in
       record { sums = and_from _ _ (eq-eqb _ _ s.0) (eq-eqb _ _ s.1); header = header_good; places = place_good }
 
-  entries_are : entries_in (block_bytes number es) (length es) ≡ es
+  entries_are : entries_in block (length es) ≡ es
   entries_are =
-      ext_get_or _ (entries_in (block_bytes number es) (length es)) es (length-map-range_with_len (entry_in (block_bytes number es)) 0 (length es)) (λ k lt.
-      let below : k < length es = subst (λ (n : ℕ). k < n) (length-map-range_with_len (entry_in (block_bytes number es)) 0 (length es)) lt in
-      get_or-map-range_with_len (entry_in (block_bytes number es)) 0 (length es) k k _ below (omega arith)
+      ext_get_or _ (entries_in block (length es)) es (length-map-range_with_len (entry_in block) 0 (length es)) (λ k lt.
+      let below : k < length es = subst (λ (n : ℕ). k < n) (length-map-range_with_len (entry_in block) 0 (length es)) lt in
+      get_or-map-range_with_len (entry_in block) 0 (length es) k k _ below (omega arith)
       ∙ ap entry_from (fields_are k below) ∙ entry_back (entry_at es k))
 
   pub reads_back : ReadsBack number es (block_bytes number es)
   reads_back places n =
-      let sized : read_sized (block_bytes number es) places ≡ true = and_from _ _ (eq-eqb _ 512 (length_block number es few)) (eq-eqb _ 31 n) in
-      let answer : read_answer (block_bytes number es) places ≡ Ok (record { number = number; count = length es }) =
-      only_if_true (read_sized (block_bytes number es) places) BlockSize _ sized
-      ∙ good_answer (block_bytes number es) good
-      ∙ ap (λ (m : ℕ). Ok (record { number = m; count = count_in (block_bytes number es) })) (word_back number small)
+      let long = length_block number es few in
+      let sized : read_sized block places ≡ true = grind (arith, nat_tests) in
+      let answer : read_answer block places ≡ Ok (record { number = number; count = length es }) =
+      only_if_true (read_sized block places) BlockSize _ sized
+      ∙ good_answer block good
+      ∙ ap (λ (m : ℕ). Ok (record { number = m; count = count_in block })) (from_be_bytes-to_be_bytes_4 number small)
       ∙ ap (λ (m : ℕ). Ok (record { number = number; count = m })) count_is in (
         answer,
-        ap (λ (r : Result Heading DeclineNumbers). places_left r (block_bytes number es) places) answer
+        ap (λ (r : Result Heading DeclineNumbers). places_left r block places) answer
             ∙ ap (λ (q : List Entry). q ++ drop (length es) places) entries_are,
       )
 
@@ -96,11 +99,11 @@ written_facts : (es : List Entry) (block : List ℕ) → write_answer es block �
 unfolding entries_answer
 written_facts es block w =
     let s = only_if_ok (write_sized es block) BlockSize (entries_answer es) tt w in
-    let m = and_parts (leb 1 (length es)) (leb (length es) 31) (and_parts (eqb (length block) 512) (within 1 31 (length es)) s.0).1 in
+    let sized = s.0 in
     let u = unless_ok (first_failing (entry_fits es) 0 (length es)) (Ok tt) tt s.1 in
     record {
-      some = leb-true 1 (length es) m.0;
-      few = leb-true (length es) 31 m.1;
+      some = grind (arith, nat_tests);
+      few = grind (arith, nat_tests);
       fit = λ k lt. passing (entry_fits es) (length es) 0 u.0 k zero-le (omega arith);
     }
 

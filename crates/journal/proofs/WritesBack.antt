@@ -1,23 +1,23 @@
 -- A block that reads well is written again by what was read.
-use Rattle.std.proofs.Common.{◌≡◌, ℕ, zero, suc, ◌+◌, ◌-◌, ◌*◌, ◌<◌, ◌≤◌, true, ◌&&◌, eqb, ltb, leb, List, [], ◌∷◌, ◌++◌, length, get_or, take, drop, replicate, None, Ok, Result, sym, refl, ap, ◌∙◌, subst, inl, inr, add-zero, add-one, arith, take-add}
+use Rattle.std.proofs.Common.{◌≡◌, ℕ, zero, suc, ◌+◌, ◌-◌, ◌*◌, ◌<◌, ◌≤◌, true, eqb, ltb, List, [], ◌∷◌, ◌++◌, length, get_or, take, drop, replicate, Ok, Result, sym, refl, ap, ◌∙◌, subst, inl, inr, add-zero, add-one, arith, take-add}
 use Rattle.std.specs.List.{flat_map}
 use Rattle.decline.specs.declared.Decline.TheVariants.{BlockSize}
 use Rattle.decline.specs.declared.DeclineNumbers.{DeclineNumbers}
 use Rattle.std.proofs.lemmas.List.{append_assoc, append-nil, length-take, length-take-le, length-drop, take_all, take-append-drop, take_at, get_or-take, get_or-drop, get_or_past, flat_map_more, replicate-append-replicate}
 use Rattle.std.proofs.lemmas.List.FromFn.{length-map-range_with_len, get_or-map-range_with_len, map-range_with_len_more}
-use Rattle.std.proofs.lemmas.Bool.{cases_lt, cond-true, cond-false, and_from, and_parts, eq-eqb, le-leb, lt-ltb, le-ltb, eqb-true, leb-true, ltb-true}
+use Rattle.std.proofs.lemmas.Bool.Decides.{nat_tests}
+use Rattle.std.proofs.lemmas.Bool.{cases_lt, cond-true, cond-false, and_parts, lt-ltb, le-ltb, eqb-true}
 use Rattle.journal.specs.declared.entries.Entry.{Entry}
 use Rattle.journal.specs.declared.blocks.Heading.{Heading}
-use Rattle.journal.specs.Bytes.{bytes2, bytes4, number2, number4}
-use Rattle.journal.specs.Entries.{fields_of, fields_at, field_bytes, entry_bytes, lawful, fits, within}
+use Rattle.journal.specs.Bytes.{number2, number4}
+use Rattle.journal.specs.Entries.{fields_of, fields_at, field_bytes, entry_bytes, lawful, fits}
 use Rattle.journal.specs.Sums.{sum_a, sum_b}
 use Rattle.journal.specs.Blocks.{entry_at, first_slot, header_bytes, sum_bytes, block_bytes, place_bytes, count_in, first_slot_in, entry_in, entries_in, all_zero, entry_fits, header_lawful}
 use Rattle.journal.specs.Calls.{write_sized, write_answer, block_left, block_after, WritesBack}
 use Rattle.journal.proofs.Digits.{Bytes, digits2, digits4, spelled, spelled_is}
 use Rattle.journal.proofs.EntryLaws.{fields_back, part_back}
-use Rattle.journal.proofs.Failing.{failing_none}
 use Rattle.journal.proofs.Growth.{block_made}
-use Rattle.journal.proofs.Checks.{Good, heading_in, only_if_true, by_entries}
+use Rattle.journal.proofs.Checks.{Good, heading_in, only_if_true, entries_taken}
 
 -- the rules of a header as plain facts
 pub record Header (block : List ℕ) : Type 0 where
@@ -27,11 +27,12 @@ pub record Header (block : List ℕ) : Type 0 where
   pub first : first_slot_in block < 16777216
 
 pub header_facts : (block : List ℕ) → header_lawful block ≡ true → Header block
-header_facts block h =
-    let a = and_parts (within 1 31 (count_in block)) (eqb (number2 block 6) 0 && ltb (first_slot_in block) 16777216) h in
-    let b = and_parts (leb 1 (count_in block)) (leb (count_in block) 31) a.0 in
-    let c = and_parts (eqb (number2 block 6) 0) (ltb (first_slot_in block) 16777216) a.1 in
-    record { some = leb-true _ _ b.0; few = leb-true _ _ b.1; gap = eqb-true _ _ c.0; first = ltb-true _ _ c.1 }
+header_facts block h = record {
+  some = grind (arith, nat_tests);
+  few = grind (arith, nat_tests);
+  gap = grind (arith, nat_tests);
+  first = grind (arith, nat_tests);
+}
 
 zeros_are : (xs : List ℕ) → all_zero xs ≡ true → xs ≡ replicate (length xs) 0
 zeros_are [] h = refl
@@ -54,22 +55,17 @@ header_read block n h z =
     let z6 : get_or block 6 0 ≡ 0 = omega (arith, z) in
     let z7 : get_or block 7 0 ≡ 0 = omega (arith, z) in
     let d = digits4 (get_or block 8 0) (get_or block 9 0) (get_or block 10 0) (get_or block 11 0) (h 8) (h 9) (h 10) (h 11) in
-    sym (spelled_is 12 0 block (omega arith)) ∙ sym (
-    ap (λ (q : List ℕ). q ++ (bytes2 (number2 block 4) ++ (0 ∷ 0 ∷ bytes4 (number4 block 8)))) a
-    ∙ ap (λ (q : List ℕ). get_or block 0 0 ∷ get_or block 1 0 ∷ get_or block 2 0 ∷ get_or block 3 0 ∷ (q ++ (0 ∷ 0 ∷ bytes4 (number4 block 8)))) b
-    ∙ ap (λ (q : List ℕ). get_or block 0 0 ∷ get_or block 1 0 ∷ get_or block 2 0 ∷ get_or block 3 0 ∷ get_or block 4 0 ∷ get_or block 5 0 ∷ 0 ∷ 0 ∷ q) d
-    ∙ ap (λ (x : ℕ). get_or block 0 0 ∷ get_or block 1 0 ∷ get_or block 2 0 ∷ get_or block 3 0 ∷ get_or block 4 0 ∷ get_or block 5 0 ∷ x ∷ 0 ∷ spelled 4 8 block) (sym z6)
-    ∙ ap (λ (x : ℕ). get_or block 0 0 ∷ get_or block 1 0 ∷ get_or block 2 0 ∷ get_or block 3 0 ∷ get_or block 4 0 ∷ get_or block 5 0 ∷ get_or block 6 0 ∷ x ∷ spelled 4 8 block) (sym z7))
+    let e : header_bytes (number4 block 0) (count_in block) (first_slot_in block) ≡ spelled 12 0 block = cc in
+    sym (spelled_is 12 0 block (omega arith)) ∙ sym e
 
 sums_read : (block : List ℕ) → length block ≡ 512 → Bytes block
     → number2 block 508 ≡ sum_a (take 508 block) → number2 block 510 ≡ sum_b (take 508 block) → block ≡ take 508 block ++ sum_bytes (take 508 block)
 sums_read block n h ea eb =
     let a = digits2 (get_or block 508 0) (get_or block 509 0) (h 508) (h 509) in
     let b = digits2 (get_or block 510 0) (get_or block 511 0) (h 510) (h 511) in
+    let s : sum_bytes (take 508 block) ≡ spelled 4 508 block = cc in
     let e : drop 508 block ≡ sum_bytes (take 508 block) =
-    sym (take_all 4 (drop 508 block) (simp length-drop (omega arith))) ∙ sym (spelled_is 4 508 block (omega arith))
-    ∙ sym (ap (λ (m : ℕ). bytes2 m ++ bytes2 (sum_b (take 508 block))) (sym ea) ∙ ap (λ (m : ℕ). bytes2 (number2 block 508) ++ bytes2 m) (sym eb)
-    ∙ ap (λ (q : List ℕ). q ++ bytes2 (number2 block 510)) a ∙ ap (λ (q : List ℕ). get_or block 508 0 ∷ get_or block 509 0 ∷ q) b) in
+    sym (take_all 4 (drop 508 block) (simp length-drop (omega arith))) ∙ sym (spelled_is 4 508 block (omega arith)) ∙ sym s in
     sym (take-append-drop 508 block) ∙ ap (λ (q : List ℕ). take 508 block ++ q) e
 
 -- the bytes up to the next place
@@ -79,6 +75,9 @@ place_next block k =
     ap (λ (m : ℕ). take m block) n ∙ take-add (12 + 16 * k) 16 block
 
 module _ (block : List ℕ) (long : length block ≡ 512) (bytes : Bytes block) (good : Good block) where
+  abbrev entries : List Entry
+  entries = entries_in block (count_in block)
+
   header : Header block
   header = header_facts block good.header
 
@@ -100,22 +99,22 @@ module _ (block : List ℕ) (long : length block ≡ 512) (bytes : Bytes block) 
       sym (ap field_bytes (fields_are k lt)
       ∙ part_back (place_bytes block k) (length_place k (omega (arith, header.few))) (part_bytes 16 (12 + 16 * k) block bytes))
 
-  length_entries : length (entries_in block (count_in block)) ≡ count_in block
+  length_entries : length entries ≡ count_in block
   length_entries = length-map-range_with_len (entry_in block) 0 (count_in block)
 
-  entry_at_lem : (k : ℕ) → k < count_in block → entry_at (entries_in block (count_in block)) k ≡ entry_in block k
-  entry_at_lem k lt = get_or-map-range_with_len (entry_in block) 0 (count_in block) k k _ lt (omega arith)
+  entry_at-entries : (k : ℕ) → k < count_in block → entry_at entries k ≡ entry_in block k
+  entry_at-entries k lt = get_or-map-range_with_len (entry_in block) 0 (count_in block) k k _ lt (omega arith)
 
-  first_is : first_slot (entries_in block (count_in block)) ≡ first_slot_in block
+  first_is : first_slot entries ≡ first_slot_in block
   first_is =
       let lt : 0 < count_in block = omega (arith, header.some) in
-      ap (λ (e : Entry). e.slot) (entry_at_lem 0 lt) ∙ eqb-true (fields_at (place_bytes block 0)).slot (first_slot_in block + 0) (used_facts 0 lt).1 ∙ add-zero (first_slot_in block)
+      ap (λ (e : Entry). e.slot) (entry_at-entries 0 lt) ∙ eqb-true (fields_at (place_bytes block 0)).slot (first_slot_in block + 0) (used_facts 0 lt).1 ∙ add-zero (first_slot_in block)
 
-  entry_fits_lem : (k : ℕ) → k < length (entries_in block (count_in block)) → entry_fits (entries_in block (count_in block)) k ≡ true
-  entry_fits_lem k l =
+  entry_fits-entries : (k : ℕ) → k < length entries → entry_fits entries k ≡ true
+  entry_fits-entries k l =
       let lt : k < count_in block = subst (λ (n : ℕ). k < n) length_entries l in
-      ap (λ (n : ℕ). fits (n + k) (fields_of (entry_at (entries_in block (count_in block)) k))) first_is
-      ∙ ap (λ (e : Entry). fits (first_slot_in block + k) (fields_of e)) (entry_at_lem k lt)
+      ap (λ (n : ℕ). fits (n + k) (fields_of (entry_at entries k))) first_is
+      ∙ ap (λ (e : Entry). fits (first_slot_in block + k) (fields_of e)) (entry_at-entries k lt)
       ∙ ap (fits (first_slot_in block + k)) (fields_are k lt)
       ∙ used_fits k lt
 
@@ -149,42 +148,41 @@ module _ (block : List ℕ) (long : length block ≡ 512) (bytes : Bytes block) 
       ∙ ap (λ (q : List ℕ). take (12 + 16 * count_in block) block ++ q) (replicate-append-replicate (16 * j) 16 0 ∙ ap (λ (i : ℕ). replicate i 0) m)
 
   -- the block is the one that its entries make
-  block_is : block ≡ block_bytes (number4 block 0) (entries_in block (count_in block))
+  block_is : block ≡ block_bytes (number4 block 0) entries
   block_is =
-      let few : length (entries_in block (count_in block)) ≤ 31 = subst (λ (n : ℕ). n ≤ 31) (sym length_entries) header.few in
-      let heads : take 12 block ≡ header_bytes (number4 block 0) (length (entries_in block (count_in block))) (first_slot (entries_in block (count_in block))) =
+      let few : length entries ≤ 31 = subst (λ (n : ℕ). n ≤ 31) (sym length_entries) header.few in
+      let heads : take 12 block ≡ header_bytes (number4 block 0) (length entries) (first_slot entries) =
       header_read block long bytes header.gap
       ∙ ap (λ (m : ℕ). header_bytes (number4 block 0) m (first_slot_in block)) (sym length_entries)
-      ∙ ap (λ (m : ℕ). header_bytes (number4 block 0) (length (entries_in block (count_in block))) m) (sym first_is) in
+      ∙ ap (λ (m : ℕ). header_bytes (number4 block 0) (length entries) m) (sym first_is) in
       let all : 12 + 16 * (count_in block + (31 - count_in block)) ≡ 508 = omega (arith, header.few) in
-      let pad : 16 * (31 - count_in block) ≡ 508 - (12 + 16 * length (entries_in block (count_in block))) = omega (arith, header.few, length_entries) in
-      let zeros : take 508 block ≡ take (12 + 16 * count_in block) block ++ replicate (508 - (12 + 16 * length (entries_in block (count_in block)))) 0 =
+      let pad : 16 * (31 - count_in block) ≡ 508 - (12 + 16 * length entries) = omega (arith, header.few, length_entries) in
+      let zeros : take 508 block ≡ take (12 + 16 * count_in block) block ++ replicate (508 - (12 + 16 * length entries)) 0 =
       ap (λ (m : ℕ). take m block) (sym all) ∙ zeros_read (31 - count_in block) (omega (arith, header.few))
       ∙ ap (λ (m : ℕ). take (12 + 16 * count_in block) block ++ replicate m 0) pad in
       let s = and_parts (eqb (number2 block 508) (sum_a (take 508 block))) _ good.sums in
-      block_made (number4 block 0) (entries_in block (count_in block)) (take 12 block) (take (12 + 16 * count_in block) block) (take 508 block) block few heads
+      block_made (number4 block 0) entries (take 12 block) (take (12 + 16 * count_in block) block) (take 508 block) block few heads
       (entries_read (count_in block) (omega arith)) zeros
       (sums_read block long bytes (eqb-true _ _ s.0) (eqb-true _ _ s.1))
 
-  writes_back : (places : List Entry) → WritesBack (heading_in block) (entries_in block (count_in block) ++ drop (count_in block) places) block
+  writes_back : (places : List Entry) → WritesBack (heading_in block) (entries ++ drop (count_in block) places) block
   writes_back places copy n =
-      let front : take (count_in block) (entries_in block (count_in block) ++ drop (count_in block) places) ≡ entries_in block (count_in block) =
-      take_at (entries_in block (count_in block)) (drop (count_in block) places) (count_in block) length_entries in
-      let some : 1 ≤ length (entries_in block (count_in block)) = subst (λ (m : ℕ). 1 ≤ m) (sym length_entries) header.some in
-      let few : length (entries_in block (count_in block)) ≤ 31 = subst (λ (m : ℕ). m ≤ 31) (sym length_entries) header.few in
-      let sized : write_sized (entries_in block (count_in block)) copy ≡ true = and_from _ _ (eq-eqb _ 512 n) (and_from _ _ (le-leb 1 _ some) (le-leb _ 31 few)) in
-      let answer : write_answer (entries_in block (count_in block)) copy ≡ Ok tt =
-      only_if_true (write_sized (entries_in block (count_in block)) copy) BlockSize _ sized
-      ∙ sym (by_entries (entries_in block (count_in block)) None
-      (sym (failing_none (entry_fits (entries_in block (count_in block))) (length (entries_in block (count_in block))) 0 (λ k lt. entry_fits_lem k (omega arith))))) in
-      let after : block_after (number4 block 0) (entries_in block (count_in block)) copy ≡ block =
-      ap (λ (r : Result (Unit {0}) DeclineNumbers). block_left r (number4 block 0) (entries_in block (count_in block)) copy) answer ∙ sym block_is in
+      let front : take (count_in block) (entries ++ drop (count_in block) places) ≡ entries =
+      take_at entries (drop (count_in block) places) (count_in block) length_entries in
+      let some : 1 ≤ length entries = subst (λ (m : ℕ). 1 ≤ m) (sym length_entries) header.some in
+      let few : length entries ≤ 31 = subst (λ (m : ℕ). m ≤ 31) (sym length_entries) header.few in
+      let sized : write_sized entries copy ≡ true = grind (arith, nat_tests) in
+      let answer : write_answer entries copy ≡ Ok tt =
+      only_if_true (write_sized entries copy) BlockSize _ sized
+      ∙ entries_taken entries entry_fits-entries in
+      let after : block_after (number4 block 0) entries copy ≡ block =
+      ap (λ (r : Result (Unit {0}) DeclineNumbers). block_left r (number4 block 0) entries copy) answer ∙ sym block_is in
       rw front (answer, after)
 
   -- the same of what `read` leaves in the places
   pub read_writes_back : (places after : List Entry) (h : Heading) → h ≡ heading_in block
       → after ≡ entries_in block h.count ++ drop h.count places → WritesBack h after block
   read_writes_back places after h eh ea =
-      let same : after ≡ entries_in block (count_in block) ++ drop (count_in block) places =
+      let same : after ≡ entries ++ drop (count_in block) places =
       ea ∙ ap (λ (k : Heading). entries_in block k.count ++ drop k.count places) eh in
       subst (λ (k : Heading). WritesBack k after block) (sym eh) (subst (λ (q : List Entry). WritesBack (heading_in block) q block) (sym same) (writes_back places))

@@ -1,6 +1,6 @@
 -- Blocks: the 512 bytes of a number and some entries, and the rules that a block keeps.
-use Rattle.std.specs.Prelude.{ℕ, zero, suc, ◌+◌, ◌-◌, ◌*◌, Bool, true, cond, ◌&&◌, List, [], ◌∷◌, ◌++◌, map, length, take, drop, replicate, Some, None, Option, ◌==◌, nat_lt, slice_index_or}
-use Rattle.std.specs.List.{range_with_len, flat_map}
+use Rattle.std.specs.Prelude.{ℕ, zero, suc, ◌+◌, ◌-◌, ◌*◌, Bool, cond, ◌&&◌, List, ◌∷◌, ◌++◌, map, length, take, drop, replicate, Some, None, Option, ◌==◌, nat_lt, slice_index_or}
+use Rattle.std.specs.List.{range_with_len, flat_map, list_all}
 use Rattle.journal.specs.declared.entries.Event.TheVariants.{Unassigned}
 use Rattle.journal.specs.declared.entries.Entry.{Entry}
 use Rattle.journal.specs.Bytes.{bytes2, bytes4, number2, number4}
@@ -54,8 +54,7 @@ entries_in block count = map (entry_in block) (range_with_len 0 count)
 
 -- every number of a list is 0
 abbrev pub all_zero : List ℕ → Bool
-all_zero [] = true
-all_zero (b ∷ bs) = b == 0 && all_zero bs
+all_zero = list_all (λ b. b == 0)
 
 -- entry k of a list may stand at place k of a block: it keeps the rules, and its slot is the first entry's plus k
 abbrev pub entry_fits : List Entry → ℕ → Bool

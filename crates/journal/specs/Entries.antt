@@ -1,7 +1,9 @@
 -- Entries: the number of each case, the sixteen bytes of an entry, and the rules that it keeps.
-use Rattle.std.specs.Prelude.{ℕ, Bool, cond, ◌&&◌, List, ◌∷◌, ◌++◌, ◌==◌, nat_le, nat_lt, slice_index}
+use Rattle.std.specs.Prelude.{◌≡◌, ℕ, ◌≤◌, IfErr, Result, Bool, cond, ◌&&◌, List, ◌∷◌, ◌++◌, ◌==◌, nat_le, nat_lt, slice_index}
+use Rattle.std.specs.Result.{OkIff}
 use Rattle.journal.specs.declared.entries.Outcome.{Outcome}
 use Rattle.journal.specs.declared.entries.Outcome.TheVariants.{Written, Read, Refused}
+use Rattle.journal.specs.declared.entries.UnknownOutcome.{UnknownOutcome}
 use Rattle.journal.specs.declared.entries.Access.{Access}
 use Rattle.journal.specs.declared.entries.Event.{Event}
 use Rattle.journal.specs.declared.entries.Event.TheVariants.{Unassigned, Fixed, Used, Idle}
@@ -88,6 +90,11 @@ lawful f = nat_lt f.slot 16777216
 -- the outcome of a number, which is 1 to 3 in a lawful entry
 abbrev pub outcome_from : ℕ → Outcome
 outcome_from n = cond (n == 1) Written (cond (n == 2) Read Refused)
+
+-- the result is the outcome of a number, or that number where no outcome has it
+pub record IsOutcomeOf (number : ℕ) (r : Result Outcome UnknownOutcome) : Type 0 where
+  pub outcome : OkIff r ((1 ≤ number) × (number ≤ 3)) (outcome_from number)
+  pub unknown : IfErr r (λ e. e.0 ≡ number)
 
 -- register, outcome and value
 abbrev pub access_from : Fields → Access

@@ -1,4 +1,5 @@
 pub mod Bytes
+pub mod Kind
 pub mod Entries
 pub mod Sums
 pub mod Blocks

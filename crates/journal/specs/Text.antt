@@ -13,6 +13,10 @@ outcome_text Written = codes "written"
 outcome_text Read = codes "read"
 outcome_text Refused = codes "refused"
 
+-- the text of a number that no outcome has
+abbrev pub unknown_outcome_text : ℕ → List ℕ
+unknown_outcome_text n = codes "no outcome has the number " ++ decimal n
+
 -- `register R, OUTCOME V`
 abbrev pub access_text : Access → List ℕ
 access_text a = codes "register " ++ (decimal a.register ++ (codes ", " ++ (outcome_text a.outcome ++ (codes " " ++ decimal a.value))))

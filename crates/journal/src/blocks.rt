@@ -3,12 +3,13 @@ ghost use Rattle.std.specs.Prelude.{◌≡◌, ◌+◌, ◌-◌, ◌*◌, ◌<�
 ghost use Rattle.std.specs.List.{flat_map};
 ghost use Rattle.decline.specs.Refusals.{by_numbers};
 ghost use Rattle.journal.specs.Entries.{entry_bytes};
-ghost use Rattle.journal.specs.Blocks.{header_bytes, sum_bytes, place_bytes, entries_in, all_zero, entry_fits, sums_agree, header_lawful, place_lawful, first_failing};
+ghost use Rattle.journal.specs.Bytes.{number2, number4};
+ghost use Rattle.journal.specs.Blocks.{count_in, first_slot_in, entry_in, header_bytes, sum_bytes, place_bytes, entries_in, all_zero, entry_fits, sums_agree, header_lawful, place_lawful, first_failing};
 ghost use Rattle.journal.specs.Calls.{entries_answer, write_answer, block_left, block_after, block_answer, read_sized, read_answer, places_left, places_after, ReadsBack, WritesBack, NeverWritten};
 
 use crate::entries::Entry;
-use crate::fields::{Fields, half, word};
-use crate::sums::sums;
+use crate::fields::{ENTRY_BYTES, Fields, SLOTS};
+use crate::sums::BlockSums;
 use decline::Decline;
 
 // The bytes of a block.
@@ -17,93 +18,125 @@ pub const BLOCK_BYTES: usize = 512;
 // The places for entries in a block.
 pub const PLACES: usize = 31;
 
-// What a block that reads well says of itself: its number, and how many entries it has.
+// The bytes before the places.
+const HEADER_BYTES: usize = 12;
+
+// The byte at which the sums begin.
+const SUMS_START: usize = 508;
+
+// What a block that reads well says of itself: its number, and how many entries it has. The entries are in places that the caller lends, so their count
+// stands here; its fields are open, so that it is at most 31 is said where one is answered.
 #[derive(Clone, Copy, PartialEq, Eq, Debug)]
 pub struct Heading {
     pub number: u32,
     pub count: usize,
 }
 
+// The bytes of a block of the right size.
+type Block = [u8; BLOCK_BYTES];
+
 // The byte at which a place begins.
 fn place_start(e: usize) -> usize
-    requires { e ≤ 31 }
+    requires { e ≤ PLACES }
     ensures { result ≡ 12 + 16 * e }
 {
-    16 * e + 12
+    HEADER_BYTES + ENTRY_BYTES * e
 }
 
-// The sixteen bytes of a place.
-fn place(block: &[u8], e: usize) -> &[u8]
-    requires { (length block.now ≡ 512) × (e < 31) }
-    ensures bytes { result.now ≡ place_bytes block.now e }
-    ensures len { length result.now ≡ 16 }
+// The N bytes from `at` on.
+fn bytes_at<const N: usize>(block: &Block, at: usize) -> &[u8; N]
+    requires { at + N ≤ BLOCK_BYTES }
+    ensures { result.now ≡ take N (drop at block.now) }
 {
-    let start = place_start(e);
-    &block[start..start + 16]
+    block[at..].first_chunk().unwrap()
+}
+
+// The number of the block. The fields of a header are read where they stand, since the rules speak of the bytes of a block.
+fn number(block: &Block) -> u32
+    ensures { result ≡ number4 block.now 0 }
+{
+    u32::from_be_bytes(*bytes_at(block, 0))
+}
+
+// How many entries the block states.
+fn count(block: &Block) -> usize
+    ensures { result ≡ count_in block.now }
+{
+    usize::from(u16::from_be_bytes(*bytes_at(block, 4)))
+}
+
+// The first slot that the block states.
+fn first_slot(block: &Block) -> u32
+    ensures { result ≡ first_slot_in block.now }
+{
+    u32::from_be_bytes(*bytes_at(block, 8))
+}
+
+// The bytes of a place. A place goes by its index: a type for one below 31 would be longer than the bound that three functions state.
+fn place(block: &Block, e: usize) -> &[u8; ENTRY_BYTES]
+    requires { e < PLACES }
+    ensures { result.now ≡ place_bytes block.now e }
+{
+    bytes_at(block, place_start(e))
+}
+
+// The entry that a place spells.
+fn entry(block: &Block, e: usize) -> Entry
+    requires { e < PLACES }
+    ensures { result ≡ entry_in block.now e }
+{
+    Entry::from(Fields::from(place(block, e)))
+}
+
+// Whether the sums at the end are those of the bytes before them.
+fn sums_agree(block: &Block) -> bool
+    ensures { result ≡ sums_agree block.now }
+{
+    BlockSums::from(*bytes_at(block, SUMS_START)) == BlockSums::of(&block[0..SUMS_START])
+}
+
+// Whether the header keeps its rules.
+fn header_lawful(block: &Block) -> bool
+    ensures { result ≡ header_lawful block.now }
+{
+    (1..=PLACES).contains(&count(block))
+        && *bytes_at(block, 6) == [0, 0]
+        && first_slot(block) < SLOTS
 }
 
 // Whether every byte is 0.
 fn all_zero(part: &[u8]) -> bool
     ensures { result ≡ all_zero part.now }
 {
-    for b in part {
-        if *b != 0 {
-            return false;
-        }
-    }
-    true
-}
-
-// Whether the sums at the end are those of the bytes before them.
-fn sums_agree(block: &[u8]) -> bool
-    requires { length block.now ≡ 512 }
-    ensures { result ≡ sums_agree block.now }
-{
-    let (a, b) = sums(&block[0..508]);
-    half(block, 508) == a && half(block, 510) == b
-}
-
-// Whether the header keeps its rules.
-fn header_lawful(block: &[u8]) -> bool
-    requires { length block.now ≡ 512 }
-    ensures { result ≡ header_lawful block.now }
-{
-    let count = half(block, 4);
-    1 <= count && count <= 31 && half(block, 6) == 0 && word(block, 8) < 16_777_216
+    part.iter().all(|b| *b == 0)
 }
 
 // Whether a place keeps its rules: below the count it has an entry of its slot, past it zeros.
-fn place_lawful(block: &[u8], e: usize) -> bool
-    requires { (length block.now ≡ 512) × (e < 31) }
+fn place_lawful(block: &Block, e: usize) -> bool
+    requires { e < PLACES }
     ensures { result ≡ place_lawful block.now e }
 {
     let part = place(block, e);
-    if e < half(block, 4) as usize {
-        Fields::at(part).fits(word(block, 8) as u64 + e as u64)
+    if e < count(block) {
+        Fields::from(part).fits(u64::from(first_slot(block)) + e as u64)
     } else {
         all_zero(part)
     }
 }
 
-// The first of the 31 places that breaks a rule, from 0.
-fn first_broken(block: &[u8]) -> Option<usize>
-    requires { length block.now ≡ 512 }
-    ensures value { result ≡ first_failing (place_lawful block.now) 0 31 }
-    ensures bound { IfSome result (λ e. e < 31) }
+// The first of the places that breaks a rule, from 0.
+fn first_broken(block: &Block) -> Option<usize>
+    ensures value { result ≡ first_failing (place_lawful block.now) 0 PLACES }
+    ensures bound { IfSome result (λ e. e < PLACES) }
 {
-    for e in 0..PLACES {
-        if !place_lawful(block, e) {
-            return Some(e);
-        }
-    }
-    None
+    (0..PLACES).find(|e| !place_lawful(block, *e))
 }
 
-// The heading of 512 bytes that keep the rules of the format, or the first rule that they break.
-fn examine(block: &[u8]) -> Result<Heading, Decline>
-    requires { length block.now ≡ 512 }
+// The heading of a block that keeps the rules of the format, or the first rule that it breaks.
+#[tactic(auto, unfolding(crate::specs::Calls::block_answer))]
+fn examine(block: &Block) -> Result<Heading, Decline>
     ensures answer { by_numbers result ≡ block_answer block.now }
-    ensures bound { IfOk result (λ h. h.count ≤ 31) }
+    ensures bound { IfOk result (λ h. h.count ≤ PLACES) }
 {
     if !sums_agree(block) {
         return Err(Decline::BlockSums);
@@ -117,27 +150,26 @@ fn examine(block: &[u8]) -> Result<Heading, Decline>
         });
     }
     Ok(Heading {
-        number: word(block, 0),
-        count: half(block, 4) as usize,
+        number: number(block),
+        count: count(block),
     })
 }
 
-// Puts the entries of a block's first places into `places`, and keeps the others.
-fn decode(block: &[u8], count: usize, places: &mut [Entry])
-    requires { (length block.now ≡ 512) × ((count ≤ 31) × (length places.old ≡ 31)) }
+// Puts the entries of the first places of a block into `places`, and keeps the others.
+fn decode(block: &Block, count: usize, places: &mut [Entry; PLACES])
+    requires { count ≤ PLACES }
     ensures { places.new ≡ entries_in block.now count ++ drop count places.old }
 {
-    for e in 0..count {
-        places[e] = Fields::at(place(block, e)).entry();
+    for (e, place) in places[..count].iter_mut().enumerate() {
+        *place = entry(block, e);
     }
 }
 
-// Reads a block into places, both of the right size.
-fn read_sized(block: &[u8], places: &mut [Entry]) -> Result<Heading, Decline>
-    requires { (length block.now ≡ 512) × (length places.old ≡ 31) }
+// Reads the block into places.
+fn read_sized(block: &Block, places: &mut [Entry; PLACES]) -> Result<Heading, Decline>
     ensures answer { by_numbers result ≡ block_answer block.now }
     ensures after { places.new ≡ places_left (block_answer block.now) block.now places.old }
-    ensures bound { IfOk result (λ h. h.count ≤ 31) }
+    ensures bound { IfOk result (λ h. h.count ≤ PLACES) }
     ensures writes_back { IfOk result (λ h. WritesBack h places.new block.now) }
     ensures never_written { OnErr result (NeverWritten block.now) }
 {
@@ -147,7 +179,7 @@ fn read_sized(block: &[u8], places: &mut [Entry]) -> Result<Heading, Decline>
 }
 
 // Reads a block of 512 bytes into 31 places: the places below the count get its entries, and those past it keep what they held.
-// A block that is refused changes nothing.
+// A block that is refused changes nothing. Block and places are the caller's, each on its own.
 pub fn read(block: &[u8], places: &mut [Entry]) -> Result<Heading, Decline>
     ensures answer { by_numbers result ≡ read_answer block.now places.old }
     ensures after { places.new ≡ places_after block.now places.old }
@@ -155,10 +187,11 @@ pub fn read(block: &[u8], places: &mut [Entry]) -> Result<Heading, Decline>
     ensures writes_back { IfOk result (λ h. WritesBack h places.new block.now) }
     ensures never_written { OnErr result (read_sized block.now places.old ≡ true → NeverWritten block.now) }
 {
+    // One refusal stands for both lengths, so they are tested together, and each is an array from then on.
     if block.len() != BLOCK_BYTES || places.len() != PLACES {
         return Err(Decline::BlockSize);
     }
-    read_sized(block, places)
+    read_sized(block.as_array().unwrap(), places.as_mut_array().unwrap())
 }
 
 // The position of the first entry that may not stand at its place of a block.
@@ -167,26 +200,23 @@ fn first_unfit(entries: &[Entry]) -> Option<usize>
     ensures value { result ≡ first_failing (entry_fits entries.now) 0 (length entries.now) }
     ensures bound { IfSome result (λ e. e < length entries.now) }
 {
-    let first = entries[0].slot;
-    for (e, entry) in entries.iter().enumerate() {
-        if !Fields::of(entry).fits(first as u64 + e as u64) {
-            return Some(e);
-        }
-    }
-    None
+    let first = u64::from(entries[0].slot);
+    entries
+        .iter()
+        .enumerate()
+        .position(|(e, entry)| !Fields::from(entry).fits(first + e as u64))
 }
 
 // Puts bytes into a block from byte `at` on.
-fn put(block: &mut [u8], at: usize, bytes: &[u8])
-    requires { at + length bytes.now ≤ length block.old }
-    ensures { take (at + length bytes.now) block.new ≡ take at block.old ++ bytes.now }
+fn put<const N: usize>(block: &mut Block, at: usize, bytes: &[u8; N])
+    requires { at + N ≤ BLOCK_BYTES }
+    ensures { take (at + N) block.new ≡ take at block.old ++ bytes.now }
 {
-    block[at..at + bytes.len()].copy_from_slice(bytes);
+    block[at..at + N].copy_from_slice(bytes);
 }
 
-// Puts the twelve bytes of the header.
-fn put_header(block: &mut [u8], number: u32, count: u16, first: u32)
-    requires { length block.old ≡ 512 }
+// Puts the bytes of the header.
+fn put_header(block: &mut Block, number: u32, count: u16, first: u32)
     ensures { take 12 block.new ≡ header_bytes number count first }
 {
     put(block, 0, &number.to_be_bytes());
@@ -195,46 +225,37 @@ fn put_header(block: &mut [u8], number: u32, count: u16, first: u32)
     put(block, 8, &first.to_be_bytes());
 }
 
-// Puts the entries into the first places.
-fn put_entries(block: &mut [u8], entries: &[Entry])
-    requires { (length block.old ≡ 512) × (length entries.now ≤ 31) }
+// Puts the entries into the first places, each by its start: the library says nothing of what `chunks_exact_mut` leaves.
+fn put_entries(block: &mut Block, entries: &[Entry])
+    requires { length entries.now ≤ PLACES }
     ensures { take (12 + 16 * length entries.now) block.new ≡ take 12 block.old ++ flat_map entry_bytes entries.now }
 {
     for (e, entry) in entries.iter().enumerate() {
-        put(block, place_start(e), &Fields::of(entry).to_bytes());
+        let bytes: [u8; ENTRY_BYTES] = Fields::from(entry).into();
+        put(block, place_start(e), &bytes);
     }
 }
 
 // Zeros from byte `from` on to the sums.
-fn put_zeros(block: &mut [u8], from: usize)
-    requires { (length block.old ≡ 512) × (from ≤ 508) }
+fn put_zeros(block: &mut Block, from: usize)
+    requires { from ≤ SUMS_START }
     ensures { take 508 block.new ≡ take from block.old ++ replicate (508 - from) 0 }
 {
-    block[from..508].fill(0);
-}
-
-// Both sums of a part, in two bytes each.
-fn sum_bytes(part: &[u8]) -> [u8; 4]
-    ensures { result ≡ sum_bytes part.now }
-{
-    let (a, b) = sums(part);
-    let [a1, a0] = a.to_be_bytes();
-    let [b1, b0] = b.to_be_bytes();
-    [a1, a0, b1, b0]
+    block[from..SUMS_START].fill(0);
 }
 
 // Puts the sums of the bytes before them.
-fn put_sums(block: &mut [u8])
-    requires { length block.old ≡ 512 }
+fn put_sums(block: &mut Block)
     ensures { block.new ≡ take 508 block.old ++ sum_bytes (take 508 block.old) }
 {
-    let bytes = sum_bytes(&block[0..508]);
-    put(block, 508, &bytes);
+    let bytes: [u8; 4] = BlockSums::of(&block[0..SUMS_START]).into();
+    put(block, SUMS_START, &bytes);
 }
 
 // Writes 1 to 31 entries into a block of the right size.
-fn write_sized(number: u32, entries: &[Entry], block: &mut [u8]) -> Result<(), Decline>
-    requires { (length block.old ≡ 512) × ((0 < length entries.now) × (length entries.now ≤ 31)) }
+#[tactic(auto, unfolding(crate::specs::Calls::entries_answer))]
+fn write_sized(number: u32, entries: &[Entry], block: &mut Block) -> Result<(), Decline>
+    requires { (0 < length entries.now) × (length entries.now ≤ PLACES) }
     ensures answer { by_numbers result ≡ entries_answer entries.now }
     ensures after { block.new ≡ block_left (entries_answer entries.now) number entries.now block.old }
     ensures reads_back { OnOk result (ReadsBack number entries.now block.new) }
@@ -260,5 +281,5 @@ pub fn write(number: u32, entries: &[Entry], block: &mut [u8]) -> Result<(), Dec
     if block.len() != BLOCK_BYTES || entries.is_empty() || entries.len() > PLACES {
         return Err(Decline::BlockSize);
     }
-    write_sized(number, entries, block)
+    write_sized(number, entries, block.as_mut_array().unwrap())
 }

@@ -1,4 +1,8 @@
 // What the journal says of one slot.
+ghost use Rattle.std.specs.Prelude.{◌≡◌};
+ghost use Rattle.journal.specs.Entries.{outcome_number, IsOutcomeOf};
+
+use std::error::Error;
 
 // How the device took an operation.
 #[derive(Clone, Copy, PartialEq, Eq, Debug)]
@@ -6,6 +10,41 @@ pub enum Outcome {
     Written,
     Read,
     Refused,
+}
+
+// A number that no outcome has.
+#[derive(Clone, Copy, PartialEq, Eq, Debug)]
+pub struct UnknownOutcome(pub u8);
+
+impl Error for UnknownOutcome {}
+
+// The number of an outcome.
+impl From<Outcome> for u8 {
+    ghost from_gives = { λ outcome number. number ≡ outcome_number outcome };
+
+    fn from(outcome: Outcome) -> u8 {
+        match outcome {
+            Outcome::Written => 1,
+            Outcome::Read => 2,
+            Outcome::Refused => 3,
+        }
+    }
+}
+
+// The outcome of a number, if there is one. Each enum has numbers of its own, so no conversion serves two.
+impl TryFrom<u8> for Outcome {
+    type Error = UnknownOutcome;
+
+    ghost try_from_gives = { IsOutcomeOf };
+
+    fn try_from(number: u8) -> Result<Outcome, UnknownOutcome> {
+        match number {
+            1 => Ok(Outcome::Written),
+            2 => Ok(Outcome::Read),
+            3 => Ok(Outcome::Refused),
+            _ => Err(UnknownOutcome(number)),
+        }
+    }
 }
 
 // One operation at the device: the value is what was written, read or offered.

@@ -1,21 +1,46 @@
 // The nine fields of an entry's sixteen bytes, and what they spell.
-ghost use Rattle.std.specs.Prelude.{◌≡◌, ◌+◌, ◌≤◌, length};
+ghost use Rattle.std.specs.Prelude.{◌≡◌, ◌==◌, ◌&&◌};
 ghost use Rattle.journal.specs.Bytes.{number2, number4};
-ghost use Rattle.journal.specs.Entries.{outcome_number, fields_of, field_bytes, fields_at, no_access, some_access, unassigned_fields, fixed_fields, used_fields, idle_fields, lawful, outcome_from, access_from, event_from, entry_from, fits};
+ghost use Rattle.journal.specs.Kind.{IsKindOf};
+ghost use Rattle.journal.specs.Entries.{fields_of, field_bytes, fields_at, no_access, some_access, unassigned_fields, fixed_fields, used_fields, idle_fields, lawful, access_from, event_from, entry_from, fits};
 
 use crate::entries::{Access, Entry, Event, Outcome};
 
-// The number of each kind of event.
-const UNASSIGNED: u8 = 0;
+// Slots are numbered from 0 to below this.
+pub(crate) const SLOTS: u32 = 16_777_216;
 
-const FIXED: u8 = 1;
+// The bytes of an entry.
+pub(crate) const ENTRY_BYTES: usize = 16;
 
-const USED: u8 = 2;
+// The kinds of events, each with its number.
+#[derive(Clone, Copy)]
+enum Kind {
+    Unassigned = 0,
+    Fixed = 1,
+    Used = 2,
+    Idle = 3,
+}
 
-const IDLE: u8 = 3;
+// The kind of a number, if there is one. Nobody is told which number had none, so the error says nothing.
+impl TryFrom<u8> for Kind {
+    type Error = ();
+
+    ghost try_from_gives = { IsKindOf };
+
+    fn try_from(number: u8) -> Result<Kind, ()> {
+        match number {
+            0 => Ok(Kind::Unassigned),
+            1 => Ok(Kind::Fixed),
+            2 => Ok(Kind::Used),
+            3 => Ok(Kind::Idle),
+            _ => Err(()),
+        }
+    }
+}
 
 // The fields of an entry in the order of its bytes; `item` is a task or a fixed operation. One that its kind does not have is 0.
-#[derive(Clone, Copy)]
+// Kind and outcome are numbers here, since bytes from outside may be of no kind and no outcome.
+#[derive(Clone, Copy, Default)]
 pub(crate) struct Fields {
     slot: u32,
     kind: u8,
@@ -28,67 +53,23 @@ pub(crate) struct Fields {
     deadline: u32,
 }
 
-// The number of an outcome.
-fn outcome_number(outcome: Outcome) -> u8
-    ensures { result ≡ outcome_number outcome }
-{
-    match outcome {
-        Outcome::Written => 1,
-        Outcome::Read => 2,
-        Outcome::Refused => 3,
-    }
-}
+// The fields of an entry.
+impl From<&Entry> for Fields {
+    ghost from_gives = { λ entry fields. fields ≡ fields_of entry.now };
 
-// The outcome of a number, which is 1 to 3 in a lawful entry.
-fn outcome_from(number: u8) -> Outcome
-    ensures { result ≡ outcome_from number }
-{
-    match number {
-        1 => Outcome::Written,
-        2 => Outcome::Read,
-        _ => Outcome::Refused,
-    }
-}
-
-// The two bytes from `at` on as a number.
-pub(crate) fn half(bytes: &[u8], at: usize) -> u16
-    requires { at + 2 ≤ length bytes.now }
-    ensures { result ≡ number2 bytes.now at }
-{
-    u16::from_be_bytes([bytes[at], bytes[at + 1]])
-}
-
-// The four bytes from `at` on as a number.
-pub(crate) fn word(bytes: &[u8], at: usize) -> u32
-    requires { at + 4 ≤ length bytes.now }
-    ensures { result ≡ number4 bytes.now at }
-{
-    u32::from_be_bytes([bytes[at], bytes[at + 1], bytes[at + 2], bytes[at + 3]])
-}
-
-impl Fields {
-    // The fields of an entry.
-    pub(crate) fn of(entry: &Entry) -> Fields
-        ensures { result ≡ fields_of entry.now }
-    {
+    fn from(entry: &Entry) -> Fields {
         let none = Fields {
             slot: entry.slot,
-            kind: UNASSIGNED,
-            guest: 0,
-            item: 0,
-            position: 0,
-            register: 0,
-            outcome: 0,
-            value: 0,
-            deadline: 0,
+            kind: Kind::Unassigned as u8,
+            ..Fields::default()
         };
         match entry.event {
             Event::Unassigned => none,
             Event::Fixed { operation, access } => Fields {
-                kind: FIXED,
+                kind: Kind::Fixed as u8,
                 item: operation,
                 register: access.register,
-                outcome: outcome_number(access.outcome),
+                outcome: u8::from(access.outcome),
                 value: access.value,
                 ..none
             },
@@ -99,60 +80,81 @@ impl Fields {
                 access,
                 deadline,
             } => Fields {
-                slot: entry.slot,
-                kind: USED,
+                kind: Kind::Used as u8,
                 guest,
                 item: task,
                 position,
                 register: access.register,
-                outcome: outcome_number(access.outcome),
+                outcome: u8::from(access.outcome),
                 value: access.value,
                 deadline,
+                ..none
             },
             Event::Idle { guest } => Fields {
-                kind: IDLE,
+                kind: Kind::Idle as u8,
                 guest,
                 ..none
             },
         }
     }
+}
 
-    // The fields in sixteen bytes.
-    pub(crate) fn at(part: &[u8]) -> Fields
-        requires { length part.now ≡ 16 }
-        ensures { result ≡ fields_at part.now }
-    {
+// The fields in the bytes of a place.
+impl From<&[u8; ENTRY_BYTES]> for Fields {
+    ghost from_gives = { λ part fields. fields ≡ fields_at part.now };
+
+    fn from(part: &[u8; ENTRY_BYTES]) -> Fields {
+        let [
+            s0,
+            s1,
+            s2,
+            s3,
+            kind,
+            guest,
+            item,
+            position,
+            register,
+            outcome,
+            v0,
+            v1,
+            d0,
+            d1,
+            d2,
+            d3,
+        ] = *part;
         Fields {
-            slot: word(part, 0),
-            kind: part[4],
-            guest: part[5],
-            item: part[6],
-            position: part[7],
-            register: part[8],
-            outcome: part[9],
-            value: half(part, 10),
-            deadline: word(part, 12),
+            slot: u32::from_be_bytes([s0, s1, s2, s3]),
+            kind,
+            guest,
+            item,
+            position,
+            register,
+            outcome,
+            value: u16::from_be_bytes([v0, v1]),
+            deadline: u32::from_be_bytes([d0, d1, d2, d3]),
         }
     }
+}
 
-    // The sixteen bytes.
-    pub(crate) fn to_bytes(self) -> [u8; 16]
-        ensures { result ≡ field_bytes self }
-    {
-        let [s0, s1, s2, s3] = self.slot.to_be_bytes();
-        let [v0, v1] = self.value.to_be_bytes();
-        let [d0, d1, d2, d3] = self.deadline.to_be_bytes();
+// The bytes of a place.
+impl From<Fields> for [u8; ENTRY_BYTES] {
+    ghost from_gives = { λ fields bytes. bytes ≡ field_bytes fields };
+
+    fn from(fields: Fields) -> [u8; ENTRY_BYTES] {
+        let [s0, s1, s2, s3] = fields.slot.to_be_bytes();
+        let [v0, v1] = fields.value.to_be_bytes();
+        let [d0, d1, d2, d3] = fields.deadline.to_be_bytes();
         [
             s0,
             s1,
             s2,
             s3,
-            self.kind,
-            self.guest,
-            self.item,
-            self.position,
-            self.register,
-            self.outcome,
+            fields.kind,
+            fields.guest,
+            fields.item,
+            fields.position,
+            fields.register,
+            fields.outcome,
             v0,
             v1,
             d0,
@@ -161,60 +163,64 @@ impl Fields {
             d3,
         ]
     }
+}
 
-    // The entry that the fields spell.
-    pub(crate) fn entry(self) -> Entry
-        ensures { result ≡ entry_from self }
-    {
+// The entry that the fields spell. It is total, since the rules are tested on the fields before.
+impl From<Fields> for Entry {
+    ghost from_gives = { λ fields entry. entry ≡ entry_from fields };
+
+    fn from(fields: Fields) -> Entry {
         Entry {
-            slot: self.slot,
-            event: self.event(),
+            slot: fields.slot,
+            event: fields.event(),
         }
     }
+}
 
-    // What happened, by the kind, which is 0 to 3 in a lawful entry.
+impl Fields {
+    // What happened, by the kind, which is 0 to 3 in a lawful entry. It is part of an entry, so no conversion.
     fn event(self) -> Event
         ensures { result ≡ event_from self }
     {
-        match self.kind {
-            UNASSIGNED => Event::Unassigned,
-            FIXED => Event::Fixed {
+        match Kind::try_from(self.kind) {
+            Ok(Kind::Unassigned) => Event::Unassigned,
+            Ok(Kind::Fixed) => Event::Fixed {
                 operation: self.item,
                 access: self.access(),
             },
-            USED => Event::Used {
+            Ok(Kind::Used) => Event::Used {
                 guest: self.guest,
                 task: self.item,
                 position: self.position,
                 access: self.access(),
                 deadline: self.deadline,
             },
-            _ => Event::Idle { guest: self.guest },
+            Ok(Kind::Idle) | Err(_) => Event::Idle { guest: self.guest },
         }
     }
 
-    // Register, outcome and value.
+    // Register, outcome and value. A lawful entry that has an access has one of the three outcomes. It is part of an entry, so no conversion.
     fn access(self) -> Access
         ensures { result ≡ access_from self }
     {
         Access {
             register: self.register,
-            outcome: outcome_from(self.outcome),
+            outcome: Outcome::try_from(self.outcome).unwrap_or(Outcome::Refused),
             value: self.value,
         }
     }
 
     // Whether the fields keep the rules of an entry.
-    pub(crate) fn lawful(self) -> bool
+    fn lawful(self) -> bool
         ensures { result ≡ lawful self }
     {
-        self.slot < 16_777_216
-            && match self.kind {
-                UNASSIGNED => self.unassigned(),
-                FIXED => self.fixed(),
-                USED => self.used(),
-                IDLE => self.idle(),
-                _ => false,
+        self.slot < SLOTS
+            && match Kind::try_from(self.kind) {
+                Ok(Kind::Unassigned) => self.unassigned(),
+                Ok(Kind::Fixed) => self.fixed(),
+                Ok(Kind::Used) => self.used(),
+                Ok(Kind::Idle) => self.idle(),
+                Err(_) => false,
             }
     }
 
@@ -225,15 +231,11 @@ impl Fields {
         self.lawful() && u64::from(self.slot) == due
     }
 
-    // Nobody got the slot: no field but slot and kind.
+    // Nobody got the slot: no guest and no operation.
     fn unassigned(self) -> bool
         ensures { result ≡ unassigned_fields self }
     {
-        self.guest == 0
-            && self.item == 0
-            && self.position == 0
-            && self.no_access()
-            && self.deadline == 0
+        self.guest == 0 && self.no_operation()
     }
 
     // A fixed operation, 1 to 32: no guest, position or deadline.
@@ -241,8 +243,7 @@ impl Fields {
         ensures { result ≡ fixed_fields self }
     {
         self.guest == 0
-            && 1 <= self.item
-            && self.item <= 32
+            && (1..=32).contains(&self.item)
             && self.position == 0
             && self.some_access()
             && self.deadline == 0
@@ -252,39 +253,36 @@ impl Fields {
     fn used(self) -> bool
         ensures { result ≡ used_fields self }
     {
-        1 <= self.guest
-            && self.guest <= 16
-            && 1 <= self.item
-            && self.item <= 8
-            && 1 <= self.position
-            && self.position <= 16
+        (1..=16).contains(&self.guest)
+            && (1..=8).contains(&self.item)
+            && (1..=16).contains(&self.position)
             && self.some_access()
             && self.slot < self.deadline
     }
 
-    // An idle grant: guest 1 to 16, and no field but slot and kind besides.
+    // An idle grant: guest 1 to 16, and no operation.
     fn idle(self) -> bool
         ensures { result ≡ idle_fields self }
     {
-        1 <= self.guest
-            && self.guest <= 16
-            && self.item == 0
-            && self.position == 0
-            && self.no_access()
-            && self.deadline == 0
+        (1..=16).contains(&self.guest) && self.no_operation()
     }
 
-    // No register, outcome or value.
-    fn no_access(self) -> bool
-        ensures { result ≡ no_access self }
+    // No field but slot, kind and guest.
+    fn no_operation(self) -> bool
+        ensures { result ≡ (self.item == 0 && (self.position == 0 && (no_access self && self.deadline == 0))) }
     {
-        self.register == 0 && self.outcome == 0 && self.value == 0
+        self.item == 0
+            && self.position == 0
+            && self.register == 0
+            && self.outcome == 0
+            && self.value == 0
+            && self.deadline == 0
     }
 
     // An outcome; register and value are free.
     fn some_access(self) -> bool
         ensures { result ≡ some_access self }
     {
-        1 <= self.outcome && self.outcome <= 3
+        Outcome::try_from(self.outcome).is_ok()
     }
 }

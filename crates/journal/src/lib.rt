@@ -8,4 +8,4 @@ mod sums;
 mod text;
 
 pub use blocks::{BLOCK_BYTES, Heading, PLACES, read, write};
-pub use entries::{Access, Entry, Event, Outcome};
+pub use entries::{Access, Entry, Event, Outcome, UnknownOutcome};

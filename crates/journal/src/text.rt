@@ -1,8 +1,8 @@
-// Entries as text, for a person.
+// Entries as text, for a person. Each type has a text of its own, so no two of the functions can be one.
 ghost use Rattle.std.specs.Prelude.{Some};
-ghost use Rattle.journal.specs.Text.{outcome_text, access_text, event_text, entry_text};
+ghost use Rattle.journal.specs.Text.{outcome_text, unknown_outcome_text, access_text, event_text, entry_text};
 
-use crate::entries::{Access, Entry, Event, Outcome};
+use crate::entries::{Access, Entry, Event, Outcome, UnknownOutcome};
 use std::fmt;
 
 impl fmt::Display for Outcome {
@@ -14,6 +14,15 @@ impl fmt::Display for Outcome {
             Outcome::Read => write!(f, "read"),
             Outcome::Refused => write!(f, "refused"),
         }
+    }
+}
+
+impl fmt::Display for UnknownOutcome {
+    ghost output = { λ e. Some (unknown_outcome_text e.0) };
+
+    fn fmt<W: fmt::Write>(&self, f: &mut fmt::Formatter<W>) -> fmt::Result {
+        let number = self.0;
+        write!(f, "no outcome has the number {number}")
     }
 }
 

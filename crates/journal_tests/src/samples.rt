@@ -1,5 +1,6 @@
-// Entries and blocks that the tests start from.
+// Entries and blocks that the tests start from. Each kind of entry has fields of its own, so each has a function.
 use journal::{Access, Entry, Event, Outcome};
+use std::array;
 
 pub(crate) fn access(outcome: Outcome) -> Access {
     Access {
@@ -48,11 +49,7 @@ pub(crate) fn used(slot: u32, guest: u8, task: u8, position: u8, deadline: u32) 
 
 // Idle grants of guest 1 in successive slots.
 pub(crate) fn idle_run(first: u32) -> [Entry; 32] {
-    let mut run = [idle(first, 1); 32];
-    for e in 0..32u32 {
-        run[e as usize] = idle(first.wrapping_add(e), 1);
-    }
-    run
+    array::from_fn(|e| idle(first.wrapping_add(e as u32), 1))
 }
 
 // One entry of each kind, in slots 0 to 3.
@@ -64,15 +61,14 @@ pub(crate) fn each_kind() -> [Entry; 4] {
 pub(crate) fn sealed(block: [u8; 512]) -> [u8; 512] {
     let mut a = 0u32;
     let mut b = 0u32;
-    for i in 0..508u32 {
-        let byte = u32::from(block[i as usize]);
+    for (byte, times) in block[0..508].iter().zip(1u32..) {
+        let byte = u32::from(*byte);
         a = a.wrapping_add(byte);
-        b = b.wrapping_add(byte.wrapping_mul(i + 1));
+        b = b.wrapping_add(byte.wrapping_mul(times));
     }
+    let [_, _, a1, a0] = a.to_be_bytes();
+    let [_, _, b1, b0] = b.to_be_bytes();
     let mut whole = block;
-    whole[508] = (a / 256 % 256) as u8;
-    whole[509] = (a % 256) as u8;
-    whole[510] = (b / 256 % 256) as u8;
-    whole[511] = (b % 256) as u8;
+    whole[508..].copy_from_slice(&[a1, a0, b1, b0]);
     whole
 }

@@ -6,12 +6,7 @@ use std::process::Abort;
 
 // Whether every byte of a block is the one that `untouched` was filled with.
 fn untouched(block: &[u8]) -> bool {
-    for byte in block {
-        if *byte != 7 {
-            return false;
-        }
-    }
-    true
+    block.iter().all(|byte| *byte == 7)
 }
 
 fn refuses(rt: &impl Abort, entries: &[Entry], refusal: Decline) {
