@@ -1,52 +1,39 @@
 // A journal as text: what each block says, and the counts at the end.
-ghost use Rattle.std.specs.Prelude.{◌≤◌, length, IfSome, IfOk};
+ghost use Rattle.std.specs.Prelude.{◌≡◌, ◌+◌, ◌^◌, ◌<◌, ◌≤◌, vec_len, MatchOption, OnOk};
+ghost use Rattle.journal.specs.Calls.{read_answer};
 ghost use Rattle.inspect.specs.Reports.{Reported};
+ghost use Rattle.inspect.specs.Tallies.{PastCounting};
 
-use crate::report::{BlockReport, report};
+use crate::report::BlockReport;
 use crate::tally::Tally;
 use journal::{BLOCK_BYTES, Entry, Event, PLACES, read};
-use std::io;
-use std::io::{ErrorKind, Read, Write};
+use std::alloc::Global;
+use std::io::{self, Read, Write};
 
-fn out_of_counts() -> io::Error {
-    io::Error::other("the input is longer than 64 bits can count")
-}
-
-// Reads until the block is full or the input ends, and answers how many bytes came.
-fn fill<R: Read>(input: &mut R, block: &mut [u8]) -> io::Result<usize>
-    ensures { IfOk result (λ n. n ≤ length block.old) }
+// Reads the next bytes of the input, as many as a block has where there are so many.
+fn next_block<R: Read>(input: &mut R, block: &mut Vec<u8>) -> io::Result<()>
+    ensures { OnOk result (vec_len block.new ≤ BLOCK_BYTES) }
 {
-    let mut filled = 0;
-    for _ in 0..u64::MAX {
-        if filled == block.len() {
-            return Ok(filled);
-        }
-        match input.read(&mut block[filled..]) {
-            Ok(0) => return Ok(filled),
-            Ok(n) => filled += n,
-            Err(e) => {
-                if e.kind() != ErrorKind::Interrupted {
-                    return Err(e);
-                }
-            }
-        }
-    }
-    Err(out_of_counts())
+    block.clear();
+    input.by_ref().take(BLOCK_BYTES as u64).read_to_end(block)?;
+    // It changes nothing: no clause of the library says that a limited reader gives no more.
+    block.truncate(BLOCK_BYTES);
+    Ok(())
 }
 
-// Reads one block and counts it; the report of it, or none where a count would pass 64 bits.
+// Reads one block and counts it; the report of it, or none where a count would pass 64 bits. The report borrows from the places, so they are lent beside
+// the tally: of a struct of both no clause could say what it holds afterwards.
 fn take_block<'a>(
     block: &[u8],
     places: &'a mut [Entry],
     tally: &mut Tally,
 ) -> Option<BlockReport<'a>>
-    ensures { IfSome result (λ b. Reported tally.old block.now places.old b tally.new) }
+    ensures { MatchOption result (PastCounting tally.old (read_answer block.now places.old)) (λ b. Reported tally.old block.now places.old b tally.new) }
 {
     let at = tally.next_byte()?;
     let answer = read(block, places);
-    let next = tally.add(answer)?;
-    *tally = next;
-    Some(report(at, answer, places))
+    *tally = tally.add(answer)?;
+    Some(BlockReport::new(at, answer, places))
 }
 
 // Prints one block, or why it is refused.
@@ -55,37 +42,49 @@ fn list_block<W: Write>(
     places: &mut [Entry],
     tally: &mut Tally,
     out: &mut W,
-) -> io::Result<()> {
+) -> io::Result<()>
+    ensures counted { OnOk result (tally.new.blocks ≡ tally.old.blocks + 1) }
+    ensures bound { OnOk result (tally.new.blocks < 2 ^ 64) }
+{
     let Some(report) = take_block(block, places, tally) else {
-        return Err(out_of_counts());
+        return Err(io::Error::other("the input is longer than 64 bits can count"));
     };
     write!(out, "{report}")
 }
 
 // Prints the blocks of the input one after another; a rest shorter than a block is the last.
-fn list_blocks<R: Read, W: Write>(input: &mut R, out: &mut W, tally: &mut Tally) -> io::Result<()> {
-    let mut block = [0; BLOCK_BYTES];
+fn list_blocks<R: Read, W: Write>(
+    input: &mut R,
+    block: &mut Vec<u8>,
+    tally: &mut Tally,
+    out: &mut W,
+) -> io::Result<()> {
     let mut places = [Entry {
         slot: 0,
         event: Event::Unassigned,
     }; PLACES];
-    for _ in 0..u64::MAX {
-        let filled = fill(input, &mut block)?;
-        if filled == 0 {
+    loop {
+        next_block(input, block)?;
+        if block.is_empty() {
             return Ok(());
         }
-        list_block(&block[0..filled], &mut places, tally, out)?;
-        if filled < BLOCK_BYTES {
+        list_block(block, &mut places, tally, out)?;
+        if block.len() < BLOCK_BYTES {
             return Ok(());
         }
     }
-    Err(out_of_counts())
 }
 
 // Prints a journal and its counts. Where the input cannot be read to its end, the blocks before are printed and counted first.
-pub(crate) fn list<R: Read, W: Write>(input: &mut R, out: &mut W) -> io::Result<Tally> {
+pub(crate) fn list<R: Read, W: Write>(
+    alloc: Global,
+    input: &mut R,
+    out: &mut W,
+) -> io::Result<Tally> {
+    // Room past the end of a block, so that reading one to its end never asks for more.
+    let mut block = Vec::with_capacity(alloc, 2 * BLOCK_BYTES)?;
     let mut tally = Tally::new();
-    let end = list_blocks(input, out, &mut tally);
+    let end = list_blocks(input, &mut block, &mut tally, out);
     writeln!(out, "{tally}")?;
     out.flush()?;
     end?;

@@ -9,8 +9,7 @@ mod tests;
 
 use listing::list;
 use std::alloc::Global;
-use std::io;
-use std::io::{BufReader, BufWriter, Read, Write};
+use std::io::{self, BufReader, BufWriter, Read, Write};
 use std::process::ExitCode;
 use tally::Tally;
 
@@ -22,7 +21,7 @@ fn list_buffered<R: Read + Drop, W: Write + Drop>(
 ) -> io::Result<Tally> {
     let mut input = BufReader::new(alloc, input)?;
     let mut out = BufWriter::new(alloc, out)?;
-    list(&mut input, &mut out)
+    list(alloc, &mut input, &mut out)
 }
 
 // The status is 1 where a block was refused, which the listing says, and where input, output or memory for the buffers failed.

@@ -7,7 +7,7 @@ use journal::{Entry, Heading};
 use std::fmt;
 
 // The lines of some entries.
-#[derive(Drop)]
+#[derive(Clone, Copy, PartialEq, Eq, Debug, Drop)]
 struct EntryLines<'a> {
     entries: &'a [Entry],
 }
@@ -23,33 +23,32 @@ impl fmt::Display for EntryLines<'_> {
     }
 }
 
-// A block that begins at a byte of the input: what reading it answered, and its entries.
-#[derive(Drop)]
+// A block that begins at a byte of the input: what reading it answered, and its entries. The answer stays as it came, since contracts speak of it.
+#[derive(Clone, Copy, PartialEq, Eq, Debug, Drop)]
 pub struct BlockReport<'a> {
     pub at: u64,
     pub answer: Result<Heading, Decline>,
     pub entries: &'a [Entry],
 }
 
-// The report of a block from what reading it answered and the places that it was read into.
-pub(crate) fn report<'a>(
-    at: u64,
-    answer: Result<Heading, Decline>,
-    places: &'a [Entry],
-) -> BlockReport<'a>
-    requires { IfOk answer (λ h. h.count ≤ length places.now) }
-    ensures at { result.at ≡ at }
-    ensures answer { result.answer ≡ answer }
-    ensures entries { result.entries.now ≡ listed answer places.now }
-{
-    let count = match answer {
-        Ok(heading) => heading.count,
-        Err(_) => 0,
-    };
-    BlockReport {
-        at,
-        answer,
-        entries: &places[0..count],
+impl<'a> BlockReport<'a> {
+    // The report of a block from what reading it answered and the places that it was read into.
+    pub(crate) fn new(
+        at: u64,
+        answer: Result<Heading, Decline>,
+        places: &'a [Entry],
+    ) -> BlockReport<'a>
+        requires { IfOk answer (λ h. h.count ≤ length places.now) }
+        ensures at { result.at ≡ at }
+        ensures answer { result.answer ≡ answer }
+        ensures entries { result.entries.now ≡ listed answer places.now }
+    {
+        let count = answer.map_or(0, |heading| heading.count);
+        BlockReport {
+            at,
+            answer,
+            entries: &places[..count],
+        }
     }
 }
 
@@ -59,8 +58,7 @@ impl fmt::Display for BlockReport<'_> {
     fn fmt<W: fmt::Write>(&self, f: &mut fmt::Formatter<W>) -> fmt::Result {
         match self.answer {
             Ok(heading) => {
-                let number = heading.number;
-                let count = heading.count;
+                let Heading { number, count } = heading;
                 let lines = EntryLines {
                     entries: self.entries,
                 };
@@ -69,7 +67,7 @@ impl fmt::Display for BlockReport<'_> {
             Err(refusal) => {
                 let at = self.at;
                 let sentence = refusal.sentence();
-                write!(f, "block at byte {at}: {refusal}: {sentence}\n")
+                writeln!(f, "block at byte {at}: {refusal}: {sentence}")
             }
         }
     }

@@ -1,5 +1,5 @@
-use Rattle.std.proofs.Common.{◌≡◌, length}
+use Rattle.std.proofs.Common.{◌-◌, ◌^◌}
 use Rattle.inspect.proofs.listing.list_blocks.Given as goal
 
-abbrev pub invariant-loop : goal.invariant-loop
-invariant-loop g l = (length l.block ≡ 512) × (length l.places ≡ 31)
+abbrev pub decreases-loop-block : goal.decreases-loop-block
+decreases-loop-block g l = 2 ^ 64 - l.tally.blocks
