@@ -1,22 +1,24 @@
 -- Why the search may stop: demand in millionths against supply in millionths, with a hundredth to spare.
-use Rattle.std.proofs.Common.{◌≡◌, ℕ, zero, suc, ◌+◌, ◌-◌, ◌*◌, ◌/◌, ◌%◌, ◌<◌, ◌≤◌, cond, ltb, List, [], ◌∷◌, length, sum_by, le_trans, lt_of_lt_of_le, mul-le-mul_right, mod-lt, div-lt_iff_lt-mul, lt_of_mul-lt-mul_right, mul-le-mul_left, div-mul-le_self, arith, le-ltb, lt-ltb}
+use Rattle.std.proofs.Common.{◌≡◌, ℕ, zero, suc, ◌+◌, ◌-◌, ◌*◌, ◌/◌, ◌%◌, ◌<◌, ◌≤◌, cond, ltb, List, [], ◌∷◌, length, get_or, sum_by, le_trans, lt_of_lt_of_le, mul-le-mul_right, mod-lt, div-lt_iff_lt-mul, lt_of_mul-lt-mul_right, mul-le-mul_left, div-mul-le_self, arith, le-ltb, lt-ltb}
 use native.Mathlib.Decide.{dec_lt}
 use native.Mathlib.Nat.{mod-add-div', lt-div-mul-add, le_of_mul-le-mul_left}
-use Rattle.std.specs.List.{AllByRecursion}
-use Rattle.std.proofs.lemmas.List.Sums.{sum_by-cons}
+use Rattle.std.specs.List.{All}
+use Rattle.std.proofs.lemmas.List.Elements.{All-head, All-tail}
+use Rattle.std.proofs.lemmas.List.Sums.{sum_by-cons, sum_by-le}
 use Rattle.admission.specs.declared.setup.Guest.{Guest}
 use Rattle.admission.specs.declared.setup.Task.{Task}
 use Rattle.admission.specs.Plan.{cost_of}
 use Rattle.admission.specs.Supply.{free_bytes, supply}
-use Rattle.admission.specs.Demand.{share_up, server_demand, servers_demand, task_demand, tasks_demand, server_supply, server_share, server_shares, task_share, task_shares, LinkHasSpare, LinkServed, TasksHaveSpare, TasksServed}
-use Rattle.admission.specs.Limits.{ServerOk, TaskOk}
-use Rattle.admission.specs.Streams.{StreamOk}
+use Rattle.admission.specs.Demand.{share_up, server_demand, servers_demand, task_demand, tasks_demand, server_supply, server_share, server_shares, task_share, task_shares, LinkHasSpare, LinkServedAt, LinkServed, TasksHaveSpare, TasksServed}
+use Rattle.admission.specs.Limits.{TaskOk}
+use Rattle.admission.specs.Streams.{server_task, StreamOk, StreamsOk, stream_shares}
 use Rattle.admission.specs.Laws.{LinkConfined, TasksConfined}
 use Rattle.admission.proofs.Windows.{supply_law}
+use Rattle.admission.proofs.Flat.{servers_streams}
 
 -- a share that is rounded up is not too small
-share_up_lem : (a b : ℕ) → 0 < b → 1000000 * a ≤ share_up a b * b
-share_up_lem a b pos = omega (arith, lt-div-mul-add {a = 1000000 * a + (b - 1)} {b = b} pos)
+share_up-bound : (a b : ℕ) → 0 < b → 1000000 * a ≤ share_up a b * b
+share_up-bound a b pos = omega (arith, lt-div-mul-add {a = 1000000 * a + (b - 1)} {b = b} pos)
 
 -- nor above a million where a is at most b
 share_small : (a b : ℕ) → 0 < b → a ≤ b → share_up a b ≤ 1000000
@@ -24,20 +26,27 @@ share_small a b pos le =
     let lt : share_up a b < 1000001 = (div-lt_iff_lt-mul pos).1 (omega arith) in
     omega arith
 
-pub stream_share_small : (k : Task) → StreamOk k → task_share k ≤ 1000000
+stream_share_small : (k : Task) → StreamOk k → task_share k ≤ 1000000
 stream_share_small k ok = share_small k.cost k.separation (omega (arith, ok)) (omega (arith, ok))
 
--- a server's demand in millionths
-server_share_lem : (t p b : ℕ) → 0 < p → 1000000 * (t / p * b) ≤ t * share_up b p
-server_share_lem t p b pos =
-    omega (arith, mul-le-mul_left (t / p) (share_up_lem b p pos), mul-le-mul_right (share_up b p) (div-mul-le_self t p))
+-- at most 16 streams have at most 16 times as much
+pub stream_shares-bound : {X : Type 0} (task : X → Task) (xs : List X) → StreamsOk task xs → length xs ≤ 16 → stream_shares task xs ≤ 16000000
+stream_shares-bound task xs ok few =
+    let each : All (λ x. task_share (task x) ≤ 1000000) xs = λ k d lt. stream_share_small (task (get_or xs k d)) (ok k d lt) in
+    let total = sum_by-le (λ x. task_share (task x)) 1000000 xs each in
+    omega (arith, mul-le-mul_right 1000000 few)
 
-servers_share : (t : ℕ) (gs : List Guest) → AllByRecursion ServerOk gs → 1000000 * sum_by (server_demand t) gs ≤ t * sum_by server_share gs
+-- a server's demand in millionths
+server_demand-bound : (t p b : ℕ) → 0 < p → 1000000 * (t / p * b) ≤ t * share_up b p
+server_demand-bound t p b pos =
+    omega (arith, mul-le-mul_left (t / p) (share_up-bound b p pos), mul-le-mul_right (share_up b p) (div-mul-le_self t p))
+
+servers_share : (t : ℕ) (gs : List Guest) → StreamsOk server_task gs → 1000000 * sum_by (server_demand t) gs ≤ t * sum_by server_share gs
 servers_share t [] ok = omega arith
 servers_share t (g ∷ gs) ok =
-    let pos : 0 < g.period = omega (arith, ok.0) in
+    let pos : 0 < g.period = omega (arith, All-head (λ x. StreamOk (server_task x)) g gs ok) in
     rw (sum_by-cons (server_demand t) g gs, sum_by-cons server_share g gs)
-    (omega (arith, servers_share t gs ok.1, server_share_lem t g.period g.budget pos))
+    (omega (arith, servers_share t gs (All-tail (λ x. StreamOk (server_task x)) g gs ok), server_demand-bound t g.period g.budget pos))
 
 -- the link's bound, with H as h + 1
 link_arith : (t h F A f q r D S : ℕ) → t ≡ q * suc h + r → r ≤ h → f * suc h ≤ 1000000 * F → A + 10000 ≤ f → 1000000 * D ≤ t * A → q * F ≤ S
@@ -60,9 +69,10 @@ link_arith_at t (suc h) F A D S pos spare demand sup far =
     (omega (arith, mod-add-div' t (suc h))) (omega arith) (div-mul-le_self (1000000 * F) (suc h)) spare demand sup (rw e at far)
 
 -- the search below the bound settles every t
-pub link_confined : LinkConfined
-unfolding LinkConfined LinkHasSpare LinkServed server_shares servers_demand
-link_confined table gs pos ok spare near t =
+pub link_confined-streams : (table : List ℕ) (gs : List Guest) → 0 < length table → StreamsOk server_task gs → LinkHasSpare table gs
+    → ((t : ℕ) → t * length table < 100 * (free_bytes table * (length table - 1)) → LinkServedAt table gs t) → LinkServed table gs
+unfolding LinkHasSpare LinkServed server_shares servers_demand
+link_confined-streams table gs pos ok spare near t =
     elim (dec_lt (t * length table) (100 * (free_bytes table * (length table - 1)))) [
       | yes h ↦ near t h
       | no h ↦
@@ -70,29 +80,33 @@ link_confined table gs pos ok spare near t =
           pos spare (servers_share t gs ok) (omega (arith, supply_law table t)) (omega (arith, h))
     ]
 
+pub link_confined : LinkConfined
+unfolding LinkConfined
+link_confined table gs pos ok spare near = link_confined-streams table gs pos (servers_streams gs ok) spare near
+
 -- every t below the link's bound is below 100 F
 pub link_near : (t h F : ℕ) → t * h < 100 * (F * (h - 1)) → t < 100 * F
 link_near t h F lt =
     lt_of_mul-lt-mul_right h (lt_of_lt_of_le lt (let m : F * (h - 1) ≤ F * h = mul-le-mul_left F (omega arith) in omega (arith, m)))
 
 -- a task's demand in millionths: its rate, and its cost once more
-task_share_lem : (t c d s : ℕ) → 0 < s → 1000000 * cond (ltb t d) 0 (((t - d) / s + 1) * c) ≤ t * share_up c s + 1000000 * c
-task_share_lem t c d s pos =
+task_demand-bound : (t c d s : ℕ) → 0 < s → 1000000 * cond (ltb t d) 0 (((t - d) / s + 1) * c) ≤ t * share_up c s + 1000000 * c
+task_demand-bound t c d s pos =
     elim (dec_lt t d) [
       | yes h ↦ rw (lt-ltb t d h) (omega arith)
       | no h ↦
           (let le : d ≤ t = omega arith in
           let q = (t - d) / s in
           let low : q * s ≤ t = omega (arith, div-mul-le_self (t - d) s) in
-          rw (le-ltb t d le) (omega (arith, mul-le-mul_left q (share_up_lem c s pos), mul-le-mul_right (share_up c s) low)))
+          rw (le-ltb t d le) (omega (arith, mul-le-mul_left q (share_up-bound c s pos), mul-le-mul_right (share_up c s) low)))
     ]
 
-tasks_share : (t : ℕ) (ks : List Task) → AllByRecursion TaskOk ks → 1000000 * sum_by (task_demand t) ks ≤ t * sum_by task_share ks + 1000000 * sum_by cost_of ks
+tasks_share : (t : ℕ) (ks : List Task) → All TaskOk ks → 1000000 * sum_by (task_demand t) ks ≤ t * sum_by task_share ks + 1000000 * sum_by cost_of ks
 tasks_share t [] ok = omega arith
 tasks_share t (k ∷ ks) ok =
-    let pos : 0 < k.separation = omega (arith, ok.0) in
+    let pos : 0 < k.separation = omega (arith, All-head TaskOk k ks ok) in
     rw (sum_by-cons (task_demand t) k ks, sum_by-cons task_share k ks, sum_by-cons cost_of k ks)
-    (omega (arith, tasks_share t ks ok.1, task_share_lem t k.cost k.deadline k.separation pos))
+    (omega (arith, tasks_share t ks (All-tail TaskOk k ks ok), task_demand-bound t k.cost k.deadline k.separation pos))
 
 -- a server's supply from below: its rate, less two budgets
 server_low : (p b t : ℕ) → 1 ≤ b → b ≤ p → t * b ≤ p * server_supply p b t + 2 * p * b

@@ -2,7 +2,6 @@ pub mod Windows
 pub mod Bounds
 pub mod Flat
 pub mod Parts
-mod Items
-mod Readings
-mod Spares
+mod Rounding
+mod Searches
 pub mod Unique

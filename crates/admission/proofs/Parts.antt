@@ -1,80 +1,89 @@
 -- Which tasks and operations are whose.
-use Rattle.std.proofs.Common.{◌≡◌, ℕ, ◌+◌, ◌-◌, ◌*◌, ◌<◌, ◌≤◌, List, length, take, drop, sum_by, sym, refl, ap, arith, length-take, take_all}
+use Rattle.std.proofs.Common.{◌≡◌, ℕ, zero, suc, add-one, subst, ◌+◌, ◌-◌, ◌*◌, ◌<◌, ◌≤◌, List, length, get_or, take, drop, sum_by, sym, refl, ap, arith, length-take, length-drop, take_all, ◌∙◌}
 use native.Mathlib.Decide.{dec_lt}
-use Rattle.std.proofs.lemmas.List.{take-take}
-use Rattle.std.specs.List.{AllByRecursion}
-use Rattle.std.proofs.lemmas.List.Sums.{sum_by_more, sum_by-take-le}
-use Rattle.std.proofs.ByRecursion.{sum_by_le, All-get_or, All-take, All-drop}
+use Rattle.std.proofs.lemmas.List.{take-take, get_or-take, get_or-drop}
+use Rattle.std.specs.List.{All}
+use Rattle.std.proofs.lemmas.List.Sums.{sum_by_more, sum_by-take-le, sum_by-le}
+use Rattle.std.proofs.lemmas.List.Elements.{All-get_or, All-take, All-drop}
 use Rattle.admission.specs.declared.setup.Guest.{Guest}
 use Rattle.admission.specs.declared.setup.Task.{Task}
-use Rattle.admission.specs.Plan.{no_guest, guest_at, task_count_of, cost_of, task_start, operation_start, Owns, tasks_of}
+use Rattle.admission.specs.Plan.{no_guest, no_task, guest_at, task_at, task_count_of, cost_of, task_start, operation_start, Owns, tasks_of}
 use Rattle.admission.specs.Limits.{FewTasks, TaskOk}
-use Rattle.admission.specs.Ready.{Agreeing}
+use Rattle.admission.specs.Parties.{Agreeing}
+use Rattle.admission.specs.Verdict.{FirstOwned}
 
--- the tasks of the first guest begin at 0
-pub start_none : (gs : List Guest) → 0 ≡ task_start gs 0
-unfolding task_start
-start_none gs = refl
-
--- what is known of a guest's tasks that begin at `from`
-pub record Part (gs : List Guest) (ks : List Task) (i from : ℕ) : Type 0 where
+-- what is known of the tasks of guest i
+pub record Part (gs : List Guest) (ks : List Task) (i : ℕ) : Type 0 where
   pub few : task_count_of (guest_at gs i) ≤ 8
-  pub next : from + task_count_of (guest_at gs i) ≡ task_start gs (i + 1)
-  pub within : from + task_count_of (guest_at gs i) ≤ length ks
-  pub is : take (from + task_count_of (guest_at gs i) - from) (drop from ks) ≡ tasks_of gs ks i
+  pub next : task_start gs i + task_count_of (guest_at gs i) ≡ task_start gs (i + 1)
+  pub within : task_start gs i + task_count_of (guest_at gs i) ≤ length ks
 
-pub part : (gs : List Guest) (ks : List Task) (i from : ℕ) → Agreeing gs ks → i < length gs → from ≡ task_start gs i → Part gs ks i from
-unfolding task_start tasks_of
-part gs ks i from ready lt e =
-    let m = sum_by_more task_count_of gs i no_guest lt in
-    let h : from + task_count_of (guest_at gs i) - from ≡ task_count_of (guest_at gs i) = omega arith in
+pub part : (gs : List Guest) (ks : List Task) (i : ℕ) → Agreeing gs ks → i < length gs → Part gs ks i
+unfolding task_start
+part gs ks i agreeing lt =
+    let more = sum_by_more task_count_of gs i no_guest lt in
     record {
-      few = All-get_or FewTasks gs i no_guest lt ready.counts;
-      next = omega (arith, m);
-      within = omega (arith, m, sum_by-take-le task_count_of gs (i + 1), ready.agree);
-      is = rw (h, e) refl;
+      few = All-get_or FewTasks gs i no_guest lt agreeing.counts;
+      next = omega (arith, more);
+      within = omega (arith, more, sum_by-take-le task_count_of gs (i + 1), agreeing.agree);
     }
 
 -- the last guest's tasks end with the list
-pub start_all : (gs : List Guest) (ks : List Task) (i : ℕ) → Agreeing gs ks → length gs ≤ i → task_start gs i ≡ length ks
+pub task_start-all : (gs : List Guest) (ks : List Task) (i : ℕ) → Agreeing gs ks → length gs ≤ i → task_start gs i ≡ length ks
 unfolding task_start
-start_all gs ks i ready le = omega (arith, ap (sum_by task_count_of) (take_all i gs le), ready.agree)
+task_start-all gs ks i agreeing le = omega (arith, ap (sum_by task_count_of) (take_all i gs le), agreeing.agree)
 
 -- no guest's tasks begin past all tasks
-pub start_within : (gs : List Guest) (i : ℕ) → task_start gs i ≤ sum_by task_count_of gs
+pub task_start-within : (gs : List Guest) (i : ℕ) → task_start gs i ≤ sum_by task_count_of gs
 unfolding task_start
-start_within gs i = sum_by-take-le task_count_of gs i
+task_start-within gs i = sum_by-take-le task_count_of gs i
 
--- a guest's tasks are at most 8, and each keeps what all keep
-pub tasks_few : (gs : List Guest) (ks : List Task) (i : ℕ) → task_count_of (guest_at gs i) ≤ 8 → length (tasks_of gs ks i) ≤ 8
-unfolding tasks_of
-tasks_few gs ks i few = simp length-take (omega (arith, few))
-
-pub tasks_ok : (gs : List Guest) (ks : List Task) (i : ℕ) → AllByRecursion TaskOk ks → AllByRecursion TaskOk (tasks_of gs ks i)
-unfolding tasks_of
-tasks_ok gs ks i ok = All-take TaskOk (task_count_of (guest_at gs i)) (drop (task_start gs i) ks) (All-drop TaskOk (task_start gs i) ks ok)
-
--- at most 128 tasks
-pub tasks_within : (gs : List Guest) (ks : List Task) → Agreeing gs ks → length ks ≤ 128
-tasks_within gs ks ready =
-    let m : length gs * 8 ≤ 128 = omega (arith, ready.few) in
-    omega (arith, ready.agree, sum_by_le task_count_of 8 gs ready.counts, m)
-
--- the operations of the first guest begin at 0
-pub operation_start_none : (gs : List Guest) (ks : List Task) → 0 ≡ operation_start gs ks 0
-unfolding operation_start task_start
-operation_start_none gs ks = refl
-
--- the operations of a guest, whose tasks begin at `task` and cost `cost`, end where those of the next begin
-pub operations_end : (gs : List Guest) (ks : List Task) (i task from cost : ℕ) → Agreeing gs ks → i < length gs → task ≡ task_start gs i → from ≡ operation_start gs ks i
-    → sum_by cost_of (take task ks) + cost ≡ sum_by cost_of (take (task + task_count_of (guest_at gs i)) ks)
-    → (from + cost ≡ operation_start gs ks (i + 1)) × (from + cost ≤ sum_by cost_of ks)
+-- nor its operations past all operations
+pub operation_start-within : (gs : List Guest) (ks : List Task) (i : ℕ) → operation_start gs ks i ≤ sum_by cost_of ks
 unfolding operation_start
-operations_end gs ks i task from cost ready lt a e sums =
-    let next = (part gs ks i task ready lt a).next in (
-      omega (arith, ap (λ n. sum_by cost_of (take n ks)) a, ap (λ n. sum_by cost_of (take n ks)) next),
-      omega (arith, ap (λ n. sum_by cost_of (take n ks)) a, sum_by-take-le cost_of ks (task + task_count_of (guest_at gs i))),
-    )
+operation_start-within gs ks i = sum_by-take-le cost_of ks (task_start gs i)
+
+-- the tasks of guest i are a part of the list, at most 8, and each keeps what all keep
+pub tasks_of-part : (gs : List Guest) (ks : List Task) (i from count : ℕ) → from ≡ task_start gs i → count ≡ task_count_of (guest_at gs i)
+    → take (from + count - from) (drop from ks) ≡ tasks_of gs ks i
+unfolding tasks_of
+tasks_of-part gs ks i from count a b =
+    let long : from + count - from ≡ count = omega arith in
+    rw (long, a, b) refl
+
+-- element j of a part is the one j past where the part begins
+pub part-at : {X : Type 0} (xs : List X) (from count j : ℕ) (d : X) → j < count → get_or (take count (drop from xs)) j d ≡ get_or xs (from + j) d
+part-at xs from count j d lt = get_or-take count (drop from xs) j d lt ∙ get_or-drop from xs j d
+
+-- task j of guest i is the task j past its first
+pub tasks_of-at : (gs : List Guest) (ks : List Task) (i j : ℕ) → j < task_count_of (guest_at gs i) → task_at (tasks_of gs ks i) j ≡ task_at ks (task_start gs i + j)
+unfolding tasks_of
+tasks_of-at gs ks i j lt = part-at ks (task_start gs i) (task_count_of (guest_at gs i)) j no_task lt
+
+pub tasks_of-length : (gs : List Guest) (ks : List Task) (i : ℕ) → Part gs ks i → length (tasks_of gs ks i) ≡ task_count_of (guest_at gs i)
+unfolding tasks_of
+tasks_of-length gs ks i p = simp (length-take, length-drop) (omega (arith, p.within))
+
+pub tasks_of-few : (gs : List Guest) (ks : List Task) (i : ℕ) → task_count_of (guest_at gs i) ≤ 8 → length (tasks_of gs ks i) ≤ 8
+unfolding tasks_of
+tasks_of-few gs ks i few = simp length-take (omega (arith, few))
+
+pub tasks_of-ok : (gs : List Guest) (ks : List Task) (i : ℕ) → All TaskOk ks → All TaskOk (tasks_of gs ks i)
+unfolding tasks_of
+tasks_of-ok gs ks i ok = All-take TaskOk (task_count_of (guest_at gs i)) (drop (task_start gs i) ks) (All-drop TaskOk (task_start gs i) ks ok)
+
+-- at most 16 guests of at most 8 tasks count at most 128
+pub task_count-bound : (gs : List Guest) → length gs ≤ 16 → All FewTasks gs → sum_by task_count_of gs ≤ 128
+task_count-bound gs few counts =
+    let most : length gs * 8 ≤ 128 = omega (arith, few) in
+    omega (arith, sum_by-le task_count_of 8 gs counts, most)
+
+-- at most 8 tasks that keep their limits cost at most 128
+pub costs_bounded : (ks : List Task) → length ks ≤ 8 → All TaskOk ks → sum_by cost_of ks ≤ 128
+costs_bounded ks few ok =
+    let cheap : All (λ k. cost_of k ≤ 16) ks = λ i d lt. (ok i d lt).cheap in
+    let most : length ks * 16 ≤ 128 = omega (arith, few) in
+    omega (arith, sum_by-le cost_of 16 ks cheap, most)
 
 -- starts that do not fall
 abbrev pub Grows : (ℕ → ℕ) → Type 0
@@ -91,9 +100,16 @@ pub operation_start_grows : (gs : List Guest) (ks : List Task) → Grows (operat
 unfolding operation_start
 operation_start_grows gs ks a b le = prefix_grows cost_of ks (task_start gs a) (task_start gs b) (task_start_grows gs a b le)
 
+-- each guest's operations begin where those before end, or later
+pub operation_start-next : (gs : List Guest) (ks : List Task) (i : ℕ) → operation_start gs ks i ≤ operation_start gs ks (i + 1)
+operation_start-next gs ks i = operation_start_grows gs ks i (i + 1) (omega arith)
+
+-- where the tasks and the operations of guests begin
+pub ruleset starts = (task_start-within, operation_start-within, operation_start-next)
+
 -- two numbers of which neither is less are equal
 pub neither_less : (i j : ℕ) → (i < j → ⊥) → (j < i → ⊥) → i ≡ j
-neither_less i j a b = elim (dec_lt i j) [ yes h ↦ absurd (a h) | no h ↦ elim (dec_lt j i) [ yes k ↦ absurd (b k) | no k ↦ omega (arith, h, k) ] ]
+neither_less i j a b = omega (arith, a, b)
 
 -- a place belongs to one guest only
 pub owner_one : (start : ℕ → ℕ) → Grows start → (i k j : ℕ) → Owns start i j → Owns start k j → i ≡ k
@@ -104,3 +120,43 @@ owner_one start grows i k j a b =
 pub owner_before : (start : ℕ → ℕ) → Grows start → (i j k l : ℕ) → Owns start i j → Owns start k l → l ≤ j → k ≤ i
 owner_before start grows i j k l a b le =
     elim (dec_lt i k) [ yes h ↦ absurd (omega (arith, grows (i + 1) k (omega (arith, h)), a.1, b.0)) | no h ↦ omega (arith, h) ]
+
+-- each place below one that a guest starts at belongs to an earlier guest
+pub owner : (start : ℕ → ℕ) → start 0 ≡ 0 → (i l : ℕ) → l < start i → (k : ℕ) × (k < i) × Owns start k l
+owner start none zero l lt = absurd (omega (arith, none))
+owner start none (suc i) l lt =
+    elim (dec_lt l (start i)) [
+      | yes h ↦ (let earlier = owner start none i l h in (earlier.0, omega (arith, earlier.1), earlier.2))
+      | no h ↦ (let next : start (i + 1) ≡ start (suc i) = ap start (add-one i) in (i, omega arith, (omega (arith, h), omega (arith, next))))
+    ]
+
+-- the places of guest i, by how far they are from its first
+module _ (n : ℕ) (start : ℕ → ℕ) (grows : Grows start) (holds : ℕ → ℕ → Type 0) (i : ℕ) (earlier : (k l : ℕ) → k < i → Owns start k l → holds k l) where
+  -- what holds at those of earlier guests and of guest i holds at those of all up to i
+  pub owned-more : ((l : ℕ) → start i + l < start (i + 1) → holds i (start i + l)) → (k l : ℕ) → k < i + 1 → Owns start k l → holds k l
+  owned-more here k l lt owned =
+      elim (dec_lt k i) [
+        | yes h ↦ earlier k l h owned
+        | no h ↦
+            (let same : i ≡ k = omega (arith, h) in
+            let own : Owns start i l = subst (λ m. Owns start m l) (sym same) owned in
+            let place : start i + (l - start i) ≡ l = omega (arith, own.0) in
+            subst (λ m. holds m l) same (subst (holds i) place (here (l - start i) (omega (arith, own.1, place)))))
+      ]
+
+  -- the first place of guest i at which it does not hold is the first of all
+  pub owned-first : (j : ℕ) → i < n → start i + j < start (i + 1) → (holds i (start i + j) → ⊥) → ((l : ℕ) → l < j → holds i (start i + l)) → FirstOwned n start holds i (start i + j)
+  owned-first j lt own broken before = record {
+    guest = lt;
+    owned = (omega arith, own);
+    broken = broken;
+    before = λ k l kn owned below.
+        elim (dec_lt k i) [
+          | yes h ↦ earlier k l h owned
+          | no h ↦
+              (let le : k ≤ i = owner_before start grows i (start i + j) k l (omega arith, own) owned (omega arith) in
+              let same : i ≡ k = omega (arith, h) in
+              let place : start i + (l - start i) ≡ l = omega (arith, owned.0, ap start same) in
+              subst (λ m. holds m l) same (subst (holds i) place (before (l - start i) (omega (arith, place)))))
+        ];
+  }

@@ -1,7 +1,7 @@
 -- A plan has one verdict: each rule has one refusal at most, and none where it holds.
 use Rattle.std.proofs.Common.{◌≡◌, ℕ, ◌+◌, ◌-◌, ◌<◌, List, length, sum_by, sym, ap, ◌∙◌, subst, ⊎_elim, arith}
-use Rattle.std.specs.List.{AllByRecursion}
-use Rattle.std.proofs.ByRecursion.{All-get_or}
+use Rattle.std.specs.List.{All}
+use Rattle.std.proofs.lemmas.List.Elements.{All-get_or}
 use Rattle.decline.specs.declared.Part.TheVariants.{Registers, Session, Table, FixedOperations, Guests, Tasks, Operations}
 use Rattle.decline.specs.declared.Decline.{Decline}
 use Rattle.decline.specs.declared.Decline.TheVariants.{SetupLimits, TableByte, ServerLimits, GuestWindow, TaskLimits, OperationRegister, LinkSpare, LinkDemand, GuestSpare, GuestDemand}
@@ -15,7 +15,7 @@ use Rattle.admission.specs.Demand.{LinkHasSpare, LinkServedAt, LinkServed, Tasks
 use Rattle.admission.specs.Limits.{RegistersOk, SessionOk, TableSizeOk, FixedSizeOk, GuestsSizeOk, TasksAgree, OperationsAgree, SizesOk, ByteOk, BytesOk, ServerOk, WindowOk, WindowsOk, TaskOk, TaskOkAt, FixedOk, FixedsOk, InsideAt, OperationsOk}
 use Rattle.admission.specs.Verdict.{Tried, Only, First, FirstOwned, SizesFault, ServerOkAt, ServersFault, TasksFault, OperationsFault, LinkFault, GuestsFault, GuestsHaveSpare, GuestsServed, Schedulable, ScheduleFault, Accepted}
 use Rattle.admission.specs.Laws.{Sharp, OneVerdict}
-use Rattle.admission.proofs.Parts.{neither_less, Grows, task_start_grows, operation_start_grows, owner_one, start_within}
+use Rattle.admission.proofs.Parts.{neither_less, Grows, task_start_grows, operation_start_grows, owner_one, task_start-within}
 
 -- a rule that has one refusal
 sharp_only : (ok : Type 0) (d : Decline) → Sharp ok (Only ok d)
@@ -78,9 +78,9 @@ sharp_sizes p n =
     sharp_of (OperationsAgree p) (SizesOk p n) _ (λ o. o.operations) (sharp_only _ (SetupLimits Operations))))))))
 
 -- rule 3
-sharp_servers : (gs : List Guest) → Sharp (AllByRecursion ServerOk gs) (ServersFault gs)
+sharp_servers : (gs : List Guest) → Sharp (All ServerOk gs) (ServersFault gs)
 sharp_servers gs =
-    sharp_of ((i : ℕ) → i < length gs → ServerOkAt gs i) (AllByRecursion ServerOk gs) _ (λ ok i lt. All-get_or ServerOk gs i no_guest lt ok)
+    sharp_of ((i : ℕ) → i < length gs → ServerOkAt gs i) (All ServerOk gs) _ (λ ok i lt. All-get_or ServerOk gs i no_guest lt ok)
     (sharp_first (length gs) (ServerOkAt gs) (λ i. ServerLimits (i + 1)))
 
 -- rule 8
@@ -104,10 +104,10 @@ sharp_guests gs ks = record {
 }
 
 -- rule 5: the guests' tasks are in the list where the lists agree
-sharp_tasks : (gs : List Guest) (ks : List Task) → length ks ≡ sum_by task_count_of gs → Sharp (AllByRecursion TaskOk ks) (TasksFault gs ks)
+sharp_tasks : (gs : List Guest) (ks : List Task) → length ks ≡ sum_by task_count_of gs → Sharp (All TaskOk ks) (TasksFault gs ks)
 sharp_tasks gs ks agree =
-    sharp_of ((i j : ℕ) → i < length gs → Owns (task_start gs) i j → TaskOkAt ks i j) (AllByRecursion TaskOk ks) _
-    (λ ok i j lt owned. All-get_or TaskOk ks j no_task (omega (arith, owned.1, start_within gs (i + 1), agree)) ok)
+    sharp_of ((i j : ℕ) → i < length gs → Owns (task_start gs) i j → TaskOkAt ks i j) (All TaskOk ks) _
+    (λ ok i j lt owned. All-get_or TaskOk ks j no_task (omega (arith, owned.1, task_start-within gs (i + 1), agree)) ok)
     (sharp_owned (length gs) (task_start gs) (task_start_grows gs) (TaskOkAt ks) (λ i j. TaskLimits (i + 1) (j - task_start gs i + 1)))
 
 -- rule 6 of the guests' operations
@@ -134,9 +134,9 @@ one_verdict p n =
     let ks = p.tasks in
     sharp_tried (SizesOk p n) (Accepted p n) _ _ (λ a. a.form.sizes) (sharp_sizes p n) (λ sizes.
     sharp_tried (BytesOk p.table (length p.fixed)) (Accepted p n) _ _ (λ a. a.form.bytes) (sharp_first (length p.table) (ByteOk p.table (length p.fixed)) TableByte) (λ _.
-    sharp_tried (AllByRecursion ServerOk gs) (Accepted p n) _ _ (λ a. a.form.servers) (sharp_servers gs) (λ _.
+    sharp_tried (All ServerOk gs) (Accepted p n) _ _ (λ a. a.form.servers) (sharp_servers gs) (λ _.
     sharp_tried (WindowsOk n gs) (Accepted p n) _ _ (λ a. a.form.windows) (sharp_first (length gs) (WindowOk n gs) (λ i. GuestWindow (i + 1))) (λ _.
-    sharp_tried (AllByRecursion TaskOk ks) (Accepted p n) _ _ (λ a. a.form.tasks) (sharp_tasks gs ks sizes.tasks) (λ _.
+    sharp_tried (All TaskOk ks) (Accepted p n) _ _ (λ a. a.form.tasks) (sharp_tasks gs ks sizes.tasks) (λ _.
     sharp_tried (FixedsOk p.fixed n) (Accepted p n) _ _ (λ a. a.form.fixed) (sharp_first (length p.fixed) (FixedOk p.fixed n) (λ i. OperationRegister 0 (i + 1))) (λ _.
     sharp_tried (OperationsOk gs ks p.operations) (Accepted p n) _ _ (λ a. a.form.operations) (sharp_operations gs ks p.operations) (λ _.
     sharp_of (Schedulable p) (Accepted p n) _ (λ a. a.schedulable) (sharp_schedule p))))))))

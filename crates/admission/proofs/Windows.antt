@@ -1,5 +1,5 @@
 -- Laws of windows of the repeated table, and of S(t).
-use Rattle.std.proofs.Common.{◌≡◌, ℕ, zero, suc, ◌+◌, ◌-◌, ◌*◌, ◌/◌, ◌%◌, ◌<◌, ◌≤◌, min, true, false, cond, List, length, get_or, take, count_by, sym, refl, ap, ◌∙◌, subst, le_trans, le_refl, add-zero, add-suc, mod-lt, mod-eq_of_lt, suc-add, arith, take_all}
+use Rattle.std.proofs.Common.{◌≡◌, ℕ, zero, suc, ◌+◌, ◌-◌, ◌*◌, ◌/◌, ◌%◌, ◌<◌, ◌≤◌, min, true, false, cond, List, length, get_or, take, count_by, sym, refl, ap, ◌∙◌, le_refl, add-zero, add-suc, mod-lt, mod-eq_of_lt, suc-add, arith, take_all}
 use native.Mathlib.Nat.{min-le_right}
 use native.Mathlib.Decide.{dec_le, ℕ_discrete as dec_eq}
 use Rattle.std.proofs.lemmas.List.Sums.{sum_by_more}
@@ -20,10 +20,6 @@ pub window_slide : (xs : List ℕ) (s t : ℕ) → window_free xs (suc s) t + sl
 unfolding window_free
 window_slide xs s zero = ap (λ n. 0 + slot_free xs n) (sym (add-zero s))
 window_slide xs s (suc t) = omega (arith, window_slide xs s t, ap (slot_free xs) (suc-add s t), ap (slot_free xs) (add-suc s t))
-
-pub window_more : (xs : List ℕ) (s t : ℕ) → window_free xs s (t + 1) ≡ window_free xs s t + slot_free xs (s + t)
-unfolding window_free
-window_more xs s t = let e : t + 1 ≡ suc t = omega arith in rw e refl
 
 pub least_more : (xs : List ℕ) (t n : ℕ) → least_to xs t (n + 1) ≡ min (least_to xs t n) (window_free xs (n + 1) t)
 unfolding least_to
@@ -130,23 +126,6 @@ supply_least xs t pos = record {
       omega (arith, e, least_lower xs t (length xs - 1) (s % length xs) (omega arith));
   attained = let p = least_attained xs t (length xs - 1) in (p.0, p.2);
 }
-
--- a longer window has no fewer free slots
-pub least_grows : (xs : List ℕ) (t n : ℕ) → least_to xs t n ≤ least_to xs (suc t) n
-unfolding least_to window_free
-least_grows xs t zero = omega arith
-least_grows xs t (suc n) = omega (arith, least_grows xs t n)
-
-pub supply_grows_by : (xs : List ℕ) (t d : ℕ) → supply xs t ≤ supply xs (t + d)
-unfolding supply
-supply_grows_by xs t zero = let e : t + 0 ≡ t = omega arith in rw e (le_refl _)
-supply_grows_by xs t (suc d) =
-    let e : t + suc d ≡ suc (t + d) = omega arith in
-    rw e (le_trans (supply_grows_by xs t d) (least_grows xs (t + d) (length xs - 1)))
-
--- S does not fall
-pub supply_grows : (xs : List ℕ) (s t : ℕ) → s ≤ t → supply xs s ≤ supply xs t
-supply_grows xs s t le = let e : s + (t - s) ≡ t = omega arith in subst (λ (n : ℕ). supply xs s ≤ supply xs n) e (supply_grows_by xs s (t - s))
 
 -- S(t) is at most t
 pub supply_small : (xs : List ℕ) (t : ℕ) → supply xs t ≤ t

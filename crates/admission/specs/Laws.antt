@@ -1,6 +1,6 @@
 -- Laws of admission: what S(t) is, why the search may stop, and that a plan has one verdict.
 use Rattle.std.specs.Prelude.{◌≡◌, ℕ, ◌+◌, ◌-◌, ◌*◌, ◌/◌, ◌%◌, ◌<◌, ◌≤◌, List, length, sum_by}
-use Rattle.std.specs.List.{AllByRecursion}
+use Rattle.std.specs.List.{All}
 use Rattle.decline.specs.declared.DeclineNumbers.{DeclineNumbers}
 use Rattle.admission.specs.declared.setup.Guest.{Guest}
 use Rattle.admission.specs.declared.setup.Task.{Task}
@@ -25,12 +25,12 @@ SupplyRepeats = (table : List ℕ) (t : ℕ) → length table ≤ t → supply t
 
 -- with the spare, servers that are served in each t with t × H < 100 × F × (H - 1) are always served
 unfoldable pub LinkConfined : Type 0
-LinkConfined = (table : List ℕ) (gs : List Guest) → 0 < length table → AllByRecursion ServerOk gs → LinkHasSpare table gs
+LinkConfined = (table : List ℕ) (gs : List Guest) → 0 < length table → All ServerOk gs → LinkHasSpare table gs
     → ((t : ℕ) → t * length table < 100 * (free_bytes table * (length table - 1)) → LinkServedAt table gs t) → LinkServed table gs
 
 -- with the spare, tasks that are served in each t < 100 × (2 × budget + costs) are always served
 unfoldable pub TasksConfined : Type 0
-TasksConfined = (period budget : ℕ) (ks : List Task) → 1 ≤ budget → budget ≤ period → AllByRecursion TaskOk ks → TasksHaveSpare period budget ks
+TasksConfined = (period budget : ℕ) (ks : List Task) → 1 ≤ budget → budget ≤ period → All TaskOk ks → TasksHaveSpare period budget ks
     → ((t : ℕ) → t < 100 * (2 * budget + sum_by cost_of ks) → TasksServedAt period budget ks t) → TasksServed period budget ks
 
 -- of a rule and its refusals: where the rule holds there is none, and there is never more than one

@@ -1,10 +1,10 @@
 pub mod Plan
 pub mod Supply
-pub mod Filled
+pub mod Grows
 pub mod Demand
 pub mod Limits
 pub mod Streams
-pub mod Ready
+pub mod Parties
 pub mod Verdict
 pub mod Laws
 pub mod Text

@@ -1,6 +1,6 @@
 -- The rules 1 to 6: sizes, table bytes, servers, windows, tasks and operations.
 use Rattle.std.specs.Prelude.{◌≡◌, ℕ, ◌+◌, ◌<◌, ◌≤◌, ◌⊎◌, List, length, sum_by, slice_index}
-use Rattle.std.specs.List.{AllByRecursion}
+use Rattle.std.specs.List.{All}
 use Rattle.admission.specs.declared.setup.Operation.{Operation}
 use Rattle.admission.specs.declared.setup.Guest.{Guest}
 use Rattle.admission.specs.declared.setup.Task.{Task}
@@ -30,7 +30,7 @@ FewTasks g = task_count_of g ≤ 8
 pub record GuestsSizeOk (gs : List Guest) : Type 0 where
   pub some : 1 ≤ length gs
   pub few : length gs ≤ 16
-  pub tasks : AllByRecursion FewTasks gs
+  pub tasks : All FewTasks gs
 
 -- as many tasks as the guests count
 abbrev pub TasksAgree : Plan → Type 0

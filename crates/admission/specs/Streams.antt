@@ -1,6 +1,6 @@
 -- Streams of work: servers and tasks alike, by their separation, cost and deadline.
 use Rattle.std.specs.Prelude.{ℕ, ◌<◌, ◌≤◌, List, sum_by}
-use Rattle.std.specs.List.{AllByRecursion}
+use Rattle.std.specs.List.{All}
 use Rattle.admission.specs.declared.setup.Guest.{Guest}
 use Rattle.admission.specs.declared.setup.Task.{Task}
 use Rattle.admission.specs.Demand.{task_demand, task_share}
@@ -24,14 +24,14 @@ TaskFlat t u k = (s : ℕ) → t ≤ s → s < u → task_demand s k ≤ task_de
 module _ {X : Type 0} (task : X → Task) where
   -- each stream of a list keeps these limits
   abbrev pub StreamsOk : List X → Type 0
-  StreamsOk xs = AllByRecursion (λ x. StreamOk (task x)) xs
+  StreamsOk xs = All (λ x. StreamOk (task x)) xs
 
   -- the share of a stream
   abbrev pub stream_share : X → ℕ
   stream_share x = task_share (task x)
 
   -- the shares of some streams together
-  unfoldable pub stream_shares : List X → ℕ
+  abbrev pub stream_shares : List X → ℕ
   stream_shares xs = sum_by stream_share xs
 
   -- the demand of a stream in t slots
@@ -39,9 +39,9 @@ module _ {X : Type 0} (task : X → Task) where
   stream_demand t x = task_demand t (task x)
 
   -- the demand of some streams together
-  unfoldable pub streams_demand : List X → ℕ → ℕ
+  abbrev pub streams_demand : List X → ℕ → ℕ
   streams_demand xs t = sum_by (stream_demand t) xs
 
-  -- from t slots to before u a stream needs no more than in t
-  abbrev pub Flat : ℕ → ℕ → X → Type 0
-  Flat t u x = TaskFlat t u (task x)
+  -- in t slots some streams need no more than a supply gives
+  abbrev pub ServedAt : List X → (ℕ → ℕ) → ℕ → Type 0
+  ServedAt xs gives t = streams_demand xs t ≤ gives t

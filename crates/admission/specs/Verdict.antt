@@ -1,11 +1,11 @@
 -- The verdict on a setup: accepted if the ten rules hold, else the refusal of the first that does not, at its first place.
-use Rattle.std.specs.Prelude.{◌≡◌, ℕ, ◌+◌, ◌-◌, ◌<◌, ◌⊎◌, List, length, Ok, Err, Result}
-use Rattle.std.specs.List.{AllByRecursion}
+use Rattle.std.specs.Prelude.{◌≡◌, ℕ, ◌+◌, ◌-◌, ◌<◌, ◌⊎◌, List, length, Ok, Err, Result, MatchResult}
+use Rattle.std.specs.List.{All}
 use Rattle.decline.specs.declared.Part.TheVariants.{Registers, Session, Table, FixedOperations, Guests, Tasks, Operations}
 use Rattle.decline.specs.declared.Decline.{Decline}
 use Rattle.decline.specs.declared.Decline.TheVariants.{SetupLimits, TableByte, ServerLimits, GuestWindow, TaskLimits, OperationRegister, LinkSpare, LinkDemand, GuestSpare, GuestDemand}
 use Rattle.decline.specs.declared.DeclineNumbers.{DeclineNumbers}
-use Rattle.decline.specs.Refusals.{numbers_of}
+use Rattle.decline.specs.Refusals.{numbers_of, by_numbers}
 use Rattle.admission.specs.declared.setup.Operation.{Operation}
 use Rattle.admission.specs.declared.setup.Guest.{Guest}
 use Rattle.admission.specs.declared.setup.Task.{Task}
@@ -32,6 +32,10 @@ pub record FirstOwned (guests : ℕ) (start : ℕ → ℕ) (holds : ℕ → ℕ 
   pub owned : Owns start i j
   pub broken : holds i j → ⊥
   pub before : (k l : ℕ) → k < guests → Owns start k l → l < j → holds k l
+
+-- the test of a rule decides it: it answers that the rule holds, or declines by numbers that are of a fault of the rule
+abbrev pub Decides : Result (Unit {0}) Decline → Type 0 → (DeclineNumbers → Type 0) → Type 0
+Decides result holds fault = MatchResult (by_numbers result) (λ x. holds) fault
 
 -- refusals 1: the first part that breaks a limit or disagrees
 abbrev pub SizesFault : Plan → ℕ → DeclineNumbers → Type 0
@@ -99,9 +103,9 @@ GuestsServed gs ks = (i : ℕ) → i < length gs → GuestServed gs ks i
 pub record WellFormed (p : Plan) (registers : ℕ) : Type 0 where
   pub sizes : SizesOk p registers
   pub bytes : BytesOk p.table (length p.fixed)
-  pub servers : AllByRecursion ServerOk p.guests
+  pub servers : All ServerOk p.guests
   pub windows : WindowsOk registers p.guests
-  pub tasks : AllByRecursion TaskOk p.tasks
+  pub tasks : All TaskOk p.tasks
   pub fixed : FixedsOk p.fixed registers
   pub operations : OperationsOk p.guests p.tasks p.operations
 
@@ -130,9 +134,9 @@ abbrev pub Declined : Plan → ℕ → DeclineNumbers → Type 0
 Declined p n =
     Tried (SizesOk p n) (SizesFault p n)
     (Tried (BytesOk p.table (length p.fixed)) (BytesFault p.table (length p.fixed))
-    (Tried (AllByRecursion ServerOk p.guests) (ServersFault p.guests)
+    (Tried (All ServerOk p.guests) (ServersFault p.guests)
     (Tried (WindowsOk n p.guests) (WindowsFault n p.guests)
-    (Tried (AllByRecursion TaskOk p.tasks) (TasksFault p.guests p.tasks)
+    (Tried (All TaskOk p.tasks) (TasksFault p.guests p.tasks)
     (Tried (FixedsOk p.fixed n) (FixedFault p.fixed n)
     (Tried (OperationsOk p.guests p.tasks p.operations) (OperationsFault p.guests p.tasks p.operations)
     (ScheduleFault p)))))))

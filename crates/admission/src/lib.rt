@@ -7,19 +7,23 @@ ghost use Rattle.admission.specs.Verdict.{IsVerdict};
 ghost use Rattle.admission.specs.Laws.{SupplyIsLeast, SupplyRepeats, LinkConfined, TasksConfined, OneVerdict};
 
 mod limits;
+mod parties;
 mod search;
 mod setup;
 mod streams;
 mod supply;
 mod text;
+mod workload;
 
 use decline::Decline;
 use limits::{
     check_fixed, check_operations, check_servers, check_sizes, check_table, check_tasks,
     check_windows,
 };
+use parties::{Parties, SoundParties};
 use search::{check_guest_demands, check_guest_spares, check_link_demand, check_link_spare};
 pub use setup::{Guest, Operation, Setup, Task};
+use supply::Table;
 pub use text::{Verdict, VerdictLine};
 
 // What the laws of admission say, for the contract of `judge`; there is nothing to do.
@@ -42,15 +46,22 @@ pub fn judge(setup: &Setup<'_>, registers: u32) -> Result<(), Decline>
 {
     admission_laws();
     check_sizes(setup, registers)?;
-    check_table(setup.table, setup.fixed.len())?;
-    check_servers(setup.guests)?;
-    check_windows(setup.guests, registers)?;
-    check_tasks(setup.guests, setup.tasks)?;
+    let table = Table { bytes: setup.table };
+    check_table(&table, setup.fixed.len())?;
+    let parties = Parties {
+        guests: setup.guests,
+        tasks: setup.tasks,
+    };
+    check_servers(&parties)?;
+    check_windows(&parties, registers)?;
+    check_tasks(&parties)?;
     check_fixed(setup.fixed, registers)?;
-    check_operations(setup.guests, setup.tasks, setup.operations)?;
-    check_link_spare(setup.guests, setup.table)?;
-    check_link_demand(setup.guests, setup.table)?;
-    check_guest_spares(setup.guests, setup.tasks)?;
-    check_guest_demands(setup.guests, setup.tasks)?;
+    check_operations(&parties, setup.operations)?;
+    let sound = SoundParties { parties };
+    let servers = sound.servers();
+    check_link_spare(&servers, &table)?;
+    check_link_demand(&servers, &table)?;
+    check_guest_spares(&sound)?;
+    check_guest_demands(&sound)?;
     Ok(())
 }

@@ -1,175 +1,133 @@
 // The rules 1 to 6 of a setup: sizes, table bytes, servers, windows, tasks and operations.
-ghost use Rattle.std.specs.Prelude.{◌≡◌, ◌+◌, ◌<◌, ◌≤◌, length, take, sum_by, MatchResult};
-ghost use Rattle.std.specs.List.{AllByRecursion};
-ghost use Rattle.decline.specs.Refusals.{by_numbers};
-ghost use Rattle.admission.specs.Plan.{plan_of, task_count_of, cost_of};
-ghost use Rattle.admission.specs.Limits.{SizesOk, FewTasks, BytesOk, ServerOk, window_end, WindowFits, Apart, MeetsNone, WindowsOk, TaskOk, TaskHolds, FixedsOk, Inside, InsideHolds, OperationsOk};
-ghost use Rattle.admission.specs.Verdict.{SizesFault, BytesFault, ServersFault, WindowsFault, TasksFault, FixedFault, OperationsFault};
-ghost use Rattle.admission.specs.Ready.{Agreeing, Tells, FirstFrom};
+// A rule over one list is the library's search and a refusal. One function for all would take both as closures, and would be no plainer.
+ghost use Rattle.std.specs.Prelude.{◌≡◌, ◌↔◌, IsTrue, ◌<◌, length, sum_by};
+ghost use Rattle.std.specs.List.{All};
+ghost use Rattle.decline.specs.declared.Decline.TheVariants.{SetupLimits};
+ghost use Rattle.admission.specs.Plan.{plan_of, cost_of};
+ghost use Rattle.admission.specs.Limits.{SizesOk, GuestsSizeOk, BytesOk, ServerOk, window_end, WindowFits, Apart, WindowsOk, TaskOk, FixedsOk, Inside, OperationsOk};
+ghost use Rattle.admission.specs.Verdict.{Decides, Only, SizesFault, BytesFault, ServersFault, WindowsFault, TasksFault, FixedFault, OperationsFault};
 
+use crate::parties::{Parties, task_total, total_cost};
 use crate::setup::{Guest, Operation, Setup, Task};
+use crate::supply::Table;
 use decline::{Decline, Part};
 
-// Whether each guest has at most 8 tasks.
-fn few_tasks_each(guests: &[Guest]) -> bool
-    ensures { Tells result (AllByRecursion FewTasks guests.now) }
+// Whether there are 1 to 16 guests of at most 8 tasks each.
+fn guests_fit(guests: &[Guest]) -> bool
+    ensures { IsTrue result ↔ GuestsSizeOk guests.now }
 {
-    for g in guests {
-        if g.task_count > 8 {
-            return false;
-        }
-    }
-    true
+    (1..=16).contains(&guests.len()) && guests.iter().all(|g| g.task_count <= 8)
 }
 
-// How many tasks guests of at most 8 tasks count together.
-fn task_total(guests: &[Guest]) -> usize
-    requires { (length guests.now ≤ 16) × (AllByRecursion FewTasks guests.now) }
-    ensures value { result ≡ sum_by task_count_of guests.now }
-    ensures bound { result ≤ 128 }
+// That a part keeps its limits, or the refusal of that part.
+fn limit(keeps: bool, part: Part) -> Result<(), Decline>
+    ensures { Decides result (IsTrue keeps) (Only (IsTrue keeps) (SetupLimits part)) }
 {
-    let mut total = 0;
-    for g in guests {
-        total += g.task_count as usize;
+    if keeps {
+        Ok(())
+    } else {
+        Err(Decline::SetupLimits { part })
     }
-    total
-}
-
-// What the tasks from place `from` to before `to` cost together, whatever their costs are.
-fn cost_between(tasks: &[Task], from: usize, to: usize) -> u64
-    requires { (from ≤ to) × ((to ≤ length tasks.now) × (to ≤ 128)) }
-    ensures { sum_by cost_of (take from tasks.now) + result ≡ sum_by cost_of (take to tasks.now) }
-{
-    let mut total = 0;
-    for j in from..to {
-        total += tasks[j].cost as u64;
-    }
-    total
 }
 
 // Rule 1: the register count and the six parts keep their sizes.
 pub(crate) fn check_sizes(setup: &Setup<'_>, registers: u32) -> Result<(), Decline>
-    ensures { MatchResult (by_numbers result) (λ _. SizesOk (plan_of setup.now) registers) (SizesFault (plan_of setup.now) registers) }
+    ensures { Decides result (SizesOk (plan_of setup.now) registers) (SizesFault (plan_of setup.now) registers) }
 {
-    if registers < 1 || registers > 256 {
-        return Err(Decline::SetupLimits {
-            part: Part::Registers,
-        });
-    }
-    if setup.session < 1 || setup.session > 16_777_216 {
-        return Err(Decline::SetupLimits {
-            part: Part::Session,
-        });
-    }
-    if setup.table.len() < 1 || setup.table.len() > 1024 {
-        return Err(Decline::SetupLimits { part: Part::Table });
-    }
-    if setup.fixed.len() > 32 {
-        return Err(Decline::SetupLimits {
-            part: Part::FixedOperations,
-        });
-    }
-    if setup.guests.len() < 1 || setup.guests.len() > 16 || !few_tasks_each(setup.guests) {
-        return Err(Decline::SetupLimits { part: Part::Guests });
-    }
-    if setup.tasks.len() != task_total(setup.guests) {
-        return Err(Decline::SetupLimits { part: Part::Tasks });
-    }
-    if setup.operations.len() as u64 != cost_between(setup.tasks, 0, setup.tasks.len()) {
-        return Err(Decline::SetupLimits {
-            part: Part::Operations,
-        });
-    }
+    limit((1..=256).contains(&registers), Part::Registers)?;
+    limit((1..=16_777_216).contains(&setup.session), Part::Session)?;
+    limit((1..=1024).contains(&setup.table.len()), Part::Table)?;
+    limit(setup.fixed.len() <= 32, Part::FixedOperations)?;
+    limit(guests_fit(setup.guests), Part::Guests)?;
+    limit(setup.tasks.len() == task_total(setup.guests), Part::Tasks)?;
+    limit(
+        setup.operations.len() as u64 == total_cost(setup.tasks),
+        Part::Operations,
+    )?;
     Ok(())
 }
 
 // Rule 2: each table byte is free or names a fixed operation.
-pub(crate) fn check_table(table: &[u8], fixed: usize) -> Result<(), Decline>
-    requires { length table.now ≤ 1024 }
-    ensures { MatchResult (by_numbers result) (λ _. BytesOk table.now fixed) (BytesFault table.now fixed) }
+pub(crate) fn check_table(table: &Table<'_>, fixed: usize) -> Result<(), Decline>
+    ensures { Decides result (BytesOk table.now.bytes.now fixed) (BytesFault table.now.bytes.now fixed) }
 {
-    for (i, byte) in table.iter().enumerate() {
-        if *byte as usize > fixed {
-            return Err(Decline::TableByte { byte: i as u64 });
-        }
+    match table
+        .bytes
+        .iter()
+        .position(|byte| usize::from(*byte) > fixed)
+    {
+        Some(i) => Err(Decline::TableByte { byte: i as u64 }),
+        None => Ok(()),
     }
-    Ok(())
 }
 
 // Whether a guest's server keeps its limits.
 fn server_ok(g: Guest) -> bool
-    ensures { Tells result (ServerOk g) }
+    ensures { IsTrue result ↔ ServerOk g }
 {
     1 <= g.budget && g.budget <= g.period && g.period <= 1024
 }
 
 // Rule 3: each server keeps its limits.
-pub(crate) fn check_servers(guests: &[Guest]) -> Result<(), Decline>
-    requires { length guests.now ≤ 16 }
-    ensures { MatchResult (by_numbers result) (λ _. AllByRecursion ServerOk guests.now) (ServersFault guests.now) }
+pub(crate) fn check_servers(parties: &Parties<'_>) -> Result<(), Decline>
+    ensures { Decides result (All ServerOk parties.now.guests.now) (ServersFault parties.now.guests.now) }
 {
-    for (i, g) in guests.iter().enumerate() {
-        if !server_ok(*g) {
-            return Err(Decline::ServerLimits {
-                guest: i as u32 + 1,
-            });
-        }
+    match parties.guests.iter().position(|g| !server_ok(*g)) {
+        Some(i) => Err(Decline::ServerLimits {
+            guest: i as u32 + 1,
+        }),
+        None => Ok(()),
     }
-    Ok(())
 }
 
 // The register after the last of a guest's window.
 fn window_end(g: Guest) -> u64
     ensures { result ≡ window_end g }
 {
-    g.first_register as u64 + g.register_count as u64
+    u64::from(g.first_register) + u64::from(g.register_count)
 }
 
 // Whether a window has a register and lies in the device.
 fn window_fits(g: Guest, registers: u32) -> bool
-    ensures { Tells result (WindowFits registers g) }
+    ensures { IsTrue result ↔ WindowFits registers g }
 {
-    1 <= g.register_count && window_end(g) <= registers as u64
+    1 <= g.register_count && window_end(g) <= u64::from(registers)
 }
 
 // Whether two windows have no register in common.
 fn apart(g: Guest, e: Guest) -> bool
-    ensures { Tells result (Apart g e) }
+    ensures { IsTrue result ↔ Apart g e }
 {
-    window_end(e) <= g.first_register as u64 || window_end(g) <= e.first_register as u64
+    window_end(e) <= u64::from(g.first_register) || window_end(g) <= u64::from(e.first_register)
 }
 
-// Whether the window of guest i meets no earlier one.
-fn meets_none(guests: &[Guest], i: usize) -> bool
-    requires { i < length guests.now }
-    ensures { Tells result (MeetsNone guests.now i) }
+// Whether a guest's window has a register, lies in the device and meets none of those of earlier guests.
+fn window_ok(g: Guest, earlier: &[Guest], registers: u32) -> bool
+    ensures { IsTrue result ↔ (WindowFits registers g × All (Apart g) earlier.now) }
 {
-    for k in 0..i {
-        if !apart(guests[i], guests[k]) {
-            return false;
-        }
-    }
-    true
+    window_fits(g, registers) && earlier.iter().all(|e| apart(g, *e))
 }
 
 // Rule 4: each window has a register, lies in the device and meets no earlier one.
-pub(crate) fn check_windows(guests: &[Guest], registers: u32) -> Result<(), Decline>
-    requires { length guests.now ≤ 16 }
-    ensures { MatchResult (by_numbers result) (λ _. WindowsOk registers guests.now) (WindowsFault registers guests.now) }
+pub(crate) fn check_windows(parties: &Parties<'_>, registers: u32) -> Result<(), Decline>
+    ensures { Decides result (WindowsOk registers parties.now.guests.now) (WindowsFault registers parties.now.guests.now) }
 {
-    for (i, g) in guests.iter().enumerate() {
-        if !window_fits(*g, registers) || !meets_none(guests, i) {
-            return Err(Decline::GuestWindow {
-                guest: i as u32 + 1,
-            });
-        }
+    let guests = parties.guests;
+    match guests
+        .iter()
+        .enumerate()
+        .position(|(i, g)| !window_ok(*g, &guests[..i], registers))
+    {
+        Some(i) => Err(Decline::GuestWindow {
+            guest: i as u32 + 1,
+        }),
+        None => Ok(()),
     }
-    Ok(())
 }
 
 // Whether a task keeps its limits.
 fn task_ok(k: Task) -> bool
-    ensures { Tells result (TaskOk k) }
+    ensures { IsTrue result ↔ TaskOk k }
 {
     1 <= k.cost
         && k.cost <= k.deadline
@@ -178,98 +136,63 @@ fn task_ok(k: Task) -> bool
         && k.cost <= 16
 }
 
-// The first task from place `from` to before `to` that breaks its limits.
-fn first_bad_task(tasks: &[Task], from: usize, to: usize) -> Option<usize>
-    requires { (from ≤ to) × (to ≤ length tasks.now) }
-    ensures { FirstFrom (TaskHolds tasks.now) from to result }
-{
-    for j in from..to {
-        if !task_ok(tasks[j]) {
-            return Some(j);
-        }
-    }
-    None
-}
-
 // Rule 5: each task keeps its limits.
-pub(crate) fn check_tasks(guests: &[Guest], tasks: &[Task]) -> Result<(), Decline>
-    requires { Agreeing guests.now tasks.now }
-    ensures { MatchResult (by_numbers result) (λ _. AllByRecursion TaskOk tasks.now) (TasksFault guests.now tasks.now) }
+pub(crate) fn check_tasks(parties: &Parties<'_>) -> Result<(), Decline>
+    ensures { Decides result (All TaskOk parties.now.tasks.now) (TasksFault parties.now.guests.now parties.now.tasks.now) }
 {
-    let mut from = 0;
-    for (i, g) in guests.iter().enumerate() {
-        let to = from + g.task_count as usize;
-        if let Some(j) = first_bad_task(tasks, from, to) {
+    // No list is indexed: a guest's tasks are found by its place, which the refusal tells too.
+    for i in 0..parties.guests.len() {
+        if let Some(j) = parties.tasks_of(i).iter().position(|k| !task_ok(*k)) {
             return Err(Decline::TaskLimits {
                 guest: i as u32 + 1,
-                task: (j - from) as u64 + 1,
+                task: j as u64 + 1,
             });
         }
-        from = to;
     }
     Ok(())
 }
 
 // Rule 6 of the fixed operations: each uses a register of the device.
 pub(crate) fn check_fixed(fixed: &[Operation], registers: u32) -> Result<(), Decline>
-    requires { length fixed.now ≤ 32 }
-    ensures { MatchResult (by_numbers result) (λ _. FixedsOk fixed.now registers) (FixedFault fixed.now registers) }
+    ensures { Decides result (FixedsOk fixed.now registers) (FixedFault fixed.now registers) }
 {
-    for (i, o) in fixed.iter().enumerate() {
-        if o.register() as u32 >= registers {
-            return Err(Decline::OperationRegister {
-                guest: 0,
-                position: i as u64 + 1,
-            });
-        }
+    match fixed
+        .iter()
+        .position(|o| u32::from(o.register()) >= registers)
+    {
+        Some(i) => Err(Decline::OperationRegister {
+            guest: 0,
+            position: i as u64 + 1,
+        }),
+        None => Ok(()),
     }
-    Ok(())
 }
 
 // Whether an operation uses a register of a guest's window.
 fn inside(g: Guest, o: Operation) -> bool
-    ensures { Tells result (Inside g o) }
+    ensures { IsTrue result ↔ Inside g o }
 {
-    let register = o.register() as u64;
-    g.first_register as u64 <= register && register < window_end(g)
-}
-
-// The first operation from place `from` to before `to` that is outside a guest's window.
-fn first_outside(operations: &[Operation], g: Guest, from: usize, to: usize) -> Option<usize>
-    requires { (from ≤ to) × (to ≤ length operations.now) }
-    ensures { FirstFrom (InsideHolds g operations.now) from to result }
-{
-    for q in from..to {
-        if !inside(g, operations[q]) {
-            return Some(q);
-        }
-    }
-    None
+    (u64::from(g.first_register)..window_end(g)).contains(&u64::from(o.register()))
 }
 
 // Rule 6 of the guests' operations: each is inside the window of its guest.
+#[tactic(auto, using(crate::proofs::Parts::starts))]
 pub(crate) fn check_operations(
-    guests: &[Guest],
-    tasks: &[Task],
+    parties: &Parties<'_>,
     operations: &[Operation],
 ) -> Result<(), Decline>
-    requires agreeing { Agreeing guests.now tasks.now }
-    requires costs { length operations.now ≡ sum_by cost_of tasks.now }
-    ensures { MatchResult (by_numbers result) (λ _. OperationsOk guests.now tasks.now operations.now) (OperationsFault guests.now tasks.now operations.now) }
+    requires { length operations.now ≡ sum_by cost_of parties.now.tasks.now }
+    ensures { Decides result (OperationsOk parties.now.guests.now parties.now.tasks.now operations.now) (OperationsFault parties.now.guests.now parties.now.tasks.now operations.now) }
 {
-    let mut task = 0;
-    let mut from = 0;
-    for (i, g) in guests.iter().enumerate() {
-        let next_task = task + g.task_count as usize;
-        let to = from + cost_between(tasks, task, next_task) as usize;
-        if let Some(q) = first_outside(operations, *g, from, to) {
+    for (i, g) in parties.guests.iter().enumerate() {
+        let from = parties.operation_start(i);
+        let to = parties.operation_start(i + 1);
+        if let Some(q) = operations[from..to].iter().position(|o| !inside(*g, *o)) {
             return Err(Decline::OperationRegister {
                 guest: i as u32 + 1,
-                position: q as u64 + 1,
+                position: (from + q) as u64 + 1,
             });
         }
-        task = next_task;
-        from = to;
     }
     Ok(())
 }

@@ -15,8 +15,7 @@ impl Operation {
         ensures { result ≡ register_of self.now }
     {
         match *self {
-            Operation::Write { register, .. } => register,
-            Operation::Read { register } => register,
+            Operation::Write { register, .. } | Operation::Read { register } => register,
         }
     }
 }
@@ -40,7 +39,7 @@ pub struct Guest {
 }
 
 // The six parts of a setup, in their order. Nothing in it is checked before it is judged.
-#[derive(Clone, Copy, Drop)]
+#[derive(Clone, Copy, PartialEq, Eq, Debug, Drop)]
 pub struct Setup<'a> {
     // How many slots the session has.
     pub session: u32,

@@ -1,15 +1,31 @@
 // What the slot table leaves free in any number of successive slots.
-ghost use Rattle.std.specs.Prelude.{◌≡◌, ◌<◌, ◌≤◌, length};
-ghost use Rattle.admission.specs.Supply.{free_bytes, slot_free, window_free, supply};
-ghost use Rattle.admission.specs.Filled.{Filled, IsFilled, supply_in};
+ghost use Rattle.std.specs.Prelude.{◌≡◌, ℕ, ◌≤◌, length, slice_index, EachIndex};
+ghost use Rattle.admission.specs.Supply.{free_bytes, slot_free, supply};
+ghost use Rattle.admission.specs.Limits.{TableSizeOk};
+ghost use Rattle.admission.specs.Grows.{supply-grows};
 
-// The free bytes of the table, F.
-pub(crate) fn free_bytes(table: &[u8]) -> u32
-    requires { length table.now ≤ 1024 }
-    ensures { result ≡ free_bytes table.now }
+// No search goes past 217,600 slots, and what is asked of slots is asked up to this many. A type for so many slots would have the bound to show at every step.
+pub(crate) const MOST_SLOTS: u32 = 250_000;
+
+// What serves streams of work, and never less in more slots.
+pub(crate) trait Supply {
+    ghost gives: { Self → ℕ → ℕ };
+
+    // What it gives in t slots at least.
+    fn at(&self, t: u32) -> u32
+        requires { t ≤ MOST_SLOTS }
+        ensures { result ≡ gives self.now t };
+
+    ghost grows: { (x : Self) (s t : ℕ) → s ≤ t → gives x s ≤ gives x t };
+}
+
+// How many of at most 1,024 bytes are free. A rule of the project asks for a loop that counts zeros.
+fn free_bytes(bytes: &[u8]) -> u32
+    requires { length bytes.now ≤ 1024 }
+    ensures { result ≡ free_bytes bytes.now }
 {
     let mut free = 0;
-    for byte in table {
+    for byte in bytes {
         if *byte == 0 {
             free += 1;
         }
@@ -17,72 +33,95 @@ pub(crate) fn free_bytes(table: &[u8]) -> u32
     free
 }
 
-// 1 if a slot is free, else 0.
-fn slot_free(table: &[u8], s: usize) -> u32
-    requires { 0 < length table.now }
-    ensures { result ≡ slot_free table.now s }
-{
-    if table[s % table.len()] == 0 { 1 } else { 0 }
+// A slot table of 1 to 1,024 bytes.
+#[derive(Clone, Copy, Drop)]
+pub(crate) struct Table<'a> {
+    pub(crate) bytes: &'a [u8],
+    ghost size: { TableSizeOk bytes.now },
 }
 
-// The free slots among the first t.
-fn first_window(table: &[u8], t: usize) -> u32
-    requires { (0 < length table.now) × (t ≤ 1024) }
-    ensures { result ≡ window_free table.now 0 t }
-{
-    let mut free = 0;
-    for s in 0..t {
-        free += slot_free(table, s);
+impl Table<'_> {
+    // H, how many bytes it has.
+    pub(crate) fn len(&self) -> u32
+        ensures { result ≡ length self.now.bytes.now }
+    {
+        self.bytes.len() as u32
     }
-    free
-}
 
-// S(t), by a window of t slots that slides over the repeated table.
-fn least_window(table: &[u8], t: usize) -> u32
-    requires { (0 < length table.now) × ((length table.now ≤ 1024) × (t ≤ 1024)) }
-    ensures { result ≡ supply table.now t }
-{
-    let mut free = first_window(table, t);
-    let mut least = free;
-    for s in 0..table.len() - 1 {
-        free = free + slot_free(table, s + t) - slot_free(table, s);
-        if free < least {
-            least = free;
+    // F, how many of them are free.
+    pub(crate) fn free_bytes(&self) -> u32
+        ensures { result ≡ free_bytes self.now.bytes.now }
+    {
+        free_bytes(self.bytes)
+    }
+
+    // 1 if a slot is free, else 0.
+    fn slot_free(&self, s: usize) -> u32
+        ensures { result ≡ slot_free self.now.bytes.now s }
+    {
+        u32::from(self.bytes[s % self.bytes.len()] == 0)
+    }
+
+    // S(t), by a window of t slots that slides over the repeated table.
+    fn least_window(&self, t: usize) -> u32
+        requires { t ≤ length self.now.bytes.now }
+        ensures { result ≡ supply self.now.bytes.now t }
+    {
+        let mut free = free_bytes(&self.bytes[..t]);
+        let mut least = free;
+        // A rule of the project asks for a window that slides, so a step starts from the one before.
+        for s in 0..self.bytes.len() - 1 {
+            free = free + self.slot_free(s + t) - self.slot_free(s);
+            least = least.min(free);
+        }
+        least
+    }
+
+    // S(0), S(1) and so on, as many as there is room for.
+    fn least_windows(&self, counts: &mut [u32])
+        requires { length counts.old ≤ length self.now.bytes.now }
+        ensures long { length counts.new ≡ length counts.old }
+        ensures least { EachIndex counts.new (λ t. slice_index counts.new t ≡ supply self.now.bytes.now t) }
+    {
+        for (t, count) in counts.iter_mut().enumerate() {
+            *count = self.least_window(t);
         }
     }
-    least
 }
 
-// S(0) to S(H - 1) of a table of H bytes, and what S(t) needs besides for a larger t.
+// S(0) to S(H - 1) of a table, and F, from which S(t) is read for any t. The crate has no heap, so it has room for the longest table.
 #[derive(Drop)]
-pub(crate) struct Lookup {
+pub(crate) struct Lookup<'a> {
+    table: Table<'a>,
     counts: [u32; 1024],
-    pub(crate) size: u32,
     pub(crate) free: u32,
+    ghost is_free: { free ≡ free_bytes table.bytes.now },
+    ghost are_least: { EachIndex table.bytes.now (λ t. slice_index counts t ≡ supply table.bytes.now t) },
 }
 
-impl Lookup {
+impl<'a> Lookup<'a> {
     // The look-up of a table.
-    pub(crate) fn of(table: &[u8]) -> Lookup
-        requires { (0 < length table.now) × (length table.now ≤ 1024) }
-        ensures { Filled result table.now }
+    pub(crate) fn of(table: Table<'a>) -> Lookup<'a>
+        ensures { result.table.bytes.now ≡ table.entry.bytes.now }
     {
         let mut counts = [0; 1024];
-        for t in 0..table.len() {
-            counts[t] = least_window(table, t);
-        }
+        table.least_windows(&mut counts[..table.bytes.len()]);
         Lookup {
+            table,
             counts,
-            size: table.len() as u32,
-            free: free_bytes(table),
+            free: table.free_bytes(),
         }
+    }
+}
+
+impl Supply for Lookup<'_> {
+    ghost gives = { λ l. supply l.table.bytes.now };
+
+    // The count of the rest past the whole rounds of the table, and F for each round.
+    fn at(&self, t: u32) -> u32 {
+        let size = self.table.len();
+        self.counts[(t % size) as usize] + t / size * self.free
     }
 
-    // S(t): the count of the rest past the whole rounds of the table, and its free bytes for each round.
-    pub(crate) fn at(&self, t: u32) -> u32
-        requires { IsFilled self.now }
-        ensures { result ≡ supply_in self.now t }
-    {
-        self.counts[(t % self.size) as usize] + t / self.size * self.free
-    }
+    ghost grows = { λ l. supply-grows l.table.bytes.now };
 }

@@ -6,7 +6,7 @@ use decline::Decline;
 use std::fmt;
 
 // What `judge` answered, as text: `accepted`, or the refusal and its sentence.
-#[derive(Clone, Copy, Drop)]
+#[derive(Clone, Copy, PartialEq, Eq, Debug, Drop)]
 pub struct Verdict {
     pub answer: Result<(), Decline>,
 }
@@ -26,7 +26,7 @@ impl fmt::Display for Verdict {
 }
 
 // What was judged, and the verdict on it.
-#[derive(Clone, Copy, Drop)]
+#[derive(Clone, Copy, PartialEq, Eq, Debug, Drop)]
 pub struct VerdictLine<'a> {
     pub what: &'a str,
     pub verdict: Verdict,
@@ -36,8 +36,7 @@ impl fmt::Display for VerdictLine<'_> {
     ghost output = { λ l. Some (verdict_line l.what.now l.verdict.answer) };
 
     fn fmt<W: fmt::Write>(&self, f: &mut fmt::Formatter<W>) -> fmt::Result {
-        let what = self.what;
-        let verdict = self.verdict;
+        let VerdictLine { what, verdict } = *self;
         write!(f, "{what}: {verdict}")
     }
 }

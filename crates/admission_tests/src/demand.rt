@@ -2,6 +2,7 @@
 use crate::samples::*;
 use admission::{Guest, Operation};
 use decline::Decline;
+use std::array;
 
 // Two fixed slots next to each other leave none of 2 free, wherever they stand and also over the end of the table.
 #[test]
@@ -127,31 +128,14 @@ fn a_guest_may_fall_short_after_many_periods(rt: HostRuntime) {
     );
 }
 
-// Sixteen guests of one register each, with eight tasks each, from register 0 on.
-fn sixteen_guests() -> [Guest; 16] {
-    let mut guests = [guest(1000, 60, 0, 1, 8); 16];
-    for i in 0..16u32 {
-        guests[i as usize] = guest(1000, 60, i, 1, 8);
-    }
-    guests
-}
-
-// One write for each of their tasks, to the register of its guest.
-fn their_operations() -> [Operation; 128] {
-    let mut operations = [write(0); 128];
-    for q in 0..128u8 {
-        operations[q as usize] = write(q / 8);
-    }
-    operations
-}
-
 // The largest number of guests and tasks on the largest table, with one fixed slot. Eight operations are due after 1,887 slots, of which a server gives 7.
 #[test]
 fn sixteen_guests_of_eight_tasks(rt: HostRuntime) {
     let mut table = [0; 1024];
     table[5] = 1;
-    let guests = sixteen_guests();
-    let operations = their_operations();
+    let guests: [Guest; 16] = row_of_guests(1000, 60, 8);
+    // One write for each of their tasks, to the register of its guest.
+    let operations: [Operation; 128] = array::from_fn(|q| write((q / 8) as u8));
     assert_eq!(rt;
         verdict(&table, &guests, &[task(3000, 1, 1888); 128], &operations),
         Ok(())

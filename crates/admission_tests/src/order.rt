@@ -3,7 +3,7 @@ use crate::samples::*;
 use admission::{Operation, Setup, judge};
 use decline::{Decline, Part};
 
-// The verdict on a setup that has a session, a table and fixed operations, and nothing else.
+// The verdict on a setup that has a session, a table and fixed operations, and nothing else. The samples give other parts.
 fn verdict_without_guests<'a>(
     registers: u32,
     session: u32,
@@ -15,8 +15,7 @@ fn verdict_without_guests<'a>(
         table,
         fixed,
         guests: &[],
-        tasks: &[],
-        operations: &[],
+        ..LONE_SETUP
     };
     judge(&setup, registers)
 }

@@ -1,6 +1,9 @@
-// Setups that the tests judge.
+// Setups that the tests judge. Guests and tasks are given apart, as a setup has them.
+ghost use Rattle.std.specs.Prelude.{◌≤◌};
+
 use admission::{Guest, Operation, Setup, Task, judge};
 use decline::{Decline, Part};
+use std::array;
 
 // The slot table of setup A.
 pub(crate) const TABLE_A: [u8; 10] = [1, 0, 0, 0, 0, 1, 0, 0, 0, 0];
@@ -16,6 +19,16 @@ const LONE: [Guest; 1] = [Guest {
     register_count: 8,
     task_count: 0,
 }];
+
+// That guest by itself, with every slot free.
+pub(crate) const LONE_SETUP: Setup<'static> = Setup {
+    session: 40,
+    table: &[0],
+    fixed: &FIXED_A,
+    guests: &LONE,
+    tasks: &[],
+    operations: &[],
+};
 
 const WRITES: [Operation; 96] = [Operation::Write {
     register: 0,
@@ -36,6 +49,13 @@ pub(crate) fn guest(
         register_count,
         task_count,
     }
+}
+
+// Guests of one register each, from register 0 on, that differ in nothing else.
+pub(crate) fn row_of_guests<const N: usize>(period: u32, budget: u32, task_count: u32) -> [Guest; N]
+    requires { N ≤ 64 }
+{
+    array::from_fn(|i| guest(period, budget, i as u32, 1, task_count))
 }
 
 // A guest with registers 0 to 7 and no task.
@@ -64,11 +84,7 @@ pub(crate) fn read(register: u8) -> Operation {
 
 // So many writes of register 0, at most 96.
 pub(crate) fn writes(count: u32) -> &'static [Operation] {
-    if count < 96 {
-        &WRITES[0..count as usize]
-    } else {
-        &WRITES
-    }
+    WRITES.get(..count as usize).unwrap_or(&WRITES)
 }
 
 pub(crate) fn guests_a() -> [Guest; 2] {
@@ -96,12 +112,11 @@ pub(crate) fn verdict<'a>(
     operations: &'a [Operation],
 ) -> Result<(), Decline> {
     let setup = Setup {
-        session: 40,
         table,
-        fixed: &FIXED_A,
         guests,
         tasks,
         operations,
+        ..LONE_SETUP
     };
     judge(&setup, 64)
 }
@@ -113,12 +128,9 @@ pub(crate) fn verdict_on_table<'a>(
     registers: u32,
 ) -> Result<(), Decline> {
     let setup = Setup {
-        session: 40,
         table,
         fixed,
-        guests: &LONE,
-        tasks: &[],
-        operations: &[],
+        ..LONE_SETUP
     };
     judge(&setup, registers)
 }

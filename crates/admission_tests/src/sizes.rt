@@ -5,14 +5,11 @@ use decline::{Decline, Part};
 
 // The verdict on one guest with register 0 and no task, with every slot free.
 fn verdict_on_counts(registers: u32, session: u32) -> Result<(), Decline> {
-    let guests = [guest(100, 1, 0, 1, 0)];
     let setup = Setup {
         session,
-        table: &[0],
         fixed: &[],
-        guests: &guests,
-        tasks: &[],
-        operations: &[],
+        guests: &[guest(100, 1, 0, 1, 0)],
+        ..LONE_SETUP
     };
     judge(&setup, registers)
 }
@@ -76,18 +73,9 @@ fn a_table_byte_names_a_fixed_operation(rt: HostRuntime) {
     );
 }
 
-// Guests of one register each and budget 1 in period 100, from register 0 on.
-fn guest_row() -> [Guest; 17] {
-    let mut row = [guest(100, 1, 0, 1, 0); 17];
-    for i in 0..17u32 {
-        row[i as usize] = guest(100, 1, i, 1, 0);
-    }
-    row
-}
-
 #[test]
 fn there_are_1_to_16_guests(rt: HostRuntime) {
-    let row = guest_row();
+    let row: [Guest; 17] = row_of_guests(100, 1, 0);
     assert_eq!(rt; verdict(&TABLE_A, &row[0..1], &[], &[]), Ok(()));
     assert_eq!(rt; verdict(&TABLE_A, &row[0..16], &[], &[]), Ok(()));
     assert_eq!(rt;

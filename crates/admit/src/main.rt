@@ -5,8 +5,7 @@ mod samples;
 mod verdicts;
 
 use std::alloc::Global;
-use std::io;
-use std::io::{BufWriter, Write};
+use std::io::{self, BufWriter, Write};
 use std::process::ExitCode;
 use verdicts::print_all;
 

@@ -10,32 +10,28 @@ pub(crate) const REGISTERS: u32 = 64;
 // The slot table of setup A.
 const TABLE_A: [u8; 10] = [1, 0, 0, 0, 0, 1, 0, 0, 0, 0];
 
+// A slot table with two fixed slots next to each other.
+pub(crate) const TWO_FIXED: [u8; 10] = [1, 1, 0, 0, 0, 0, 0, 0, 0, 0];
+
+// A slot table of one free slot.
+pub(crate) const FREE: [u8; 1] = [0];
+
 // The one fixed operation.
 const FIXED: [Operation; 1] = [Operation::Read { register: 0 }];
 
+// What the guests of setup A write: each to the first register of its window.
+const WRITE_0: Operation = Operation::Write {
+    register: 0,
+    value: 500,
+};
+
+const WRITE_8: Operation = Operation::Write {
+    register: 8,
+    value: 500,
+};
+
 // The operations of the guests of setup A.
-const OPERATIONS_A: [Operation; 5] = [
-    Operation::Write {
-        register: 0,
-        value: 500,
-    },
-    Operation::Write {
-        register: 0,
-        value: 500,
-    },
-    Operation::Write {
-        register: 8,
-        value: 500,
-    },
-    Operation::Write {
-        register: 8,
-        value: 500,
-    },
-    Operation::Write {
-        register: 8,
-        value: 500,
-    },
-];
+const OPERATIONS_A: [Operation; 5] = [WRITE_0, WRITE_0, WRITE_8, WRITE_8, WRITE_8];
 
 // The guests of setup A, with this budget for guest 2.
 pub(crate) fn guests_a(budget: u32) -> [Guest; 2] {
@@ -99,11 +95,8 @@ pub(crate) fn setup_a<'a>(guests: &'a [Guest], tasks: &'a [Task]) -> Setup<'a> {
 // A setup of guests that have no task.
 pub(crate) fn setup_without_tasks<'a>(table: &'a [u8], guests: &'a [Guest]) -> Setup<'a> {
     Setup {
-        session: SESSION,
         table,
-        fixed: &FIXED,
-        guests,
-        tasks: &[],
         operations: &[],
+        ..setup_a(guests, &[])
     }
 }

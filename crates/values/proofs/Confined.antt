@@ -1,7 +1,7 @@
 -- Schedulable in every number of slots, by a test of those below the bound.
 use Rattle.std.proofs.Common.{ℕ, zero, suc, ◌+◌, ◌-◌, ◌*◌, ◌/◌, ◌%◌, ◌<◌, ◌≤◌, Bool, true, false, ◌&&◌, T, leb, List, length, sum_by, sym, subst, lt_of_lt_of_le, lt_of_mul-lt-mul_right, arith, leb→le}
 use native.Mathlib.Decide.{ℕ_discrete}
-use Rattle.std.specs.List.{AllByRecursion}
+use Rattle.std.specs.List.{All}
 use Rattle.admission.specs.declared.setup.Guest.{Guest}
 use Rattle.admission.specs.declared.setup.Task.{Task}
 use Rattle.admission.specs.Plan.{cost_of}
@@ -37,7 +37,7 @@ below_at f (suc n) ok t h =
 unfoldable pub tasks_served? : ℕ → ℕ → List Task → ℕ → Bool
 tasks_served? p b ks t = leb (tasks_demand ks t) (server_supply p b t)
 
-pub tasks_served : (p b : ℕ) (ks : List Task) → 1 ≤ b → b ≤ p → AllByRecursion TaskOk ks → TasksHaveSpare p b ks
+pub tasks_served : (p b : ℕ) (ks : List Task) → 1 ≤ b → b ≤ p → All TaskOk ks → TasksHaveSpare p b ks
     → T (below (tasks_served? p b ks) (100 * (2 * b + sum_by cost_of ks))) → TasksServed p b ks
 unfolding tasks_served? TasksConfined
 tasks_served p b ks some within ok spare test =
@@ -51,7 +51,7 @@ quick_supply table t = supply table (t % length table) + t / length table * free
 unfoldable pub link_served? : List ℕ → List Guest → ℕ → Bool
 link_served? table gs t = leb (servers_demand gs t) (quick_supply table t)
 
-pub link_served : (table : List ℕ) (gs : List Guest) (n : ℕ) → 0 < length table → AllByRecursion ServerOk gs → LinkHasSpare table gs
+pub link_served : (table : List ℕ) (gs : List Guest) (n : ℕ) → 0 < length table → All ServerOk gs → LinkHasSpare table gs
     → 100 * (free_bytes table * (length table - 1)) ≤ n * length table → T (below (link_served? table gs) n) → LinkServed table gs
 unfolding link_served? quick_supply LinkConfined
 link_served table gs n pos ok spare far test =

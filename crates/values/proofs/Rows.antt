@@ -1,11 +1,13 @@
 -- Why each row of the table holds.
 use Rattle.std.proofs.Common.{◌≡◌, ℕ, zero, suc, ◌<◌, ◌≤◌, Bool, T, leb, List, [], ◌∷◌, map, length, get_or, refl, inl, inr, zero-le, arith, lit<, lit≤, leb→le}
-use Rattle.std.specs.List.{AllByRecursion, range_with_len}
+use Rattle.std.specs.List.{All, range_with_len}
+use Rattle.std.proofs.lemmas.List.Elements.{All-from_recursion, All-head, All-tail}
 use Rattle.admission.specs.declared.setup.Operation.TheVariants.{Read}
+use Rattle.admission.specs.declared.setup.Task.{Task}
 use Rattle.admission.specs.Plan.{Plan, guest_at, task_start, operation_start, tasks_of}
 use Rattle.admission.specs.Supply.{supply, least_to, window_free}
 use Rattle.admission.specs.Demand.{servers_demand, tasks_demand, server_supply, server_shares, task_shares, LinkHasSpare, LinkServedAt, LinkServed, TasksHaveSpare, TasksServed, GuestHasSpare, GuestServedAt}
-use Rattle.admission.specs.Limits.{SizesOk, BytesOk, ServerOk, Apart, WindowsOk, TaskOk, FixedsOk, OperationsOk}
+use Rattle.admission.specs.Limits.{SizesOk, FewTasks, BytesOk, ServerOk, Apart, WindowsOk, TaskOk, FixedsOk, OperationsOk}
 use Rattle.decline.specs.declared.DeclineNumbers.{DeclineNumbers}
 use Rattle.admission.specs.Verdict.{First, GuestsHaveSpare, GuestsServed, WellFormed, Accepted, ScheduleFault, Declined}
 use Rattle.values.specs.Setups.{guest, table_a, two_fixed, guests_a, tasks_a, operations_a, setup_a, one_guest}
@@ -34,7 +36,7 @@ sizes_a d b = record {
   session = (lit≤ tt, lit≤ tt);
   table = (lit≤ tt, lit≤ tt);
   fixed = lit≤ tt;
-  guests = record { some = lit≤ tt; few = lit≤ tt; tasks = (lit≤ tt, (lit≤ tt, tt)) };
+  guests = record { some = lit≤ tt; few = lit≤ tt; tasks = All-from_recursion FewTasks (guests_a b) (lit≤ tt, (lit≤ tt, tt)) };
   tasks = refl;
   operations = refl;
 }
@@ -43,8 +45,9 @@ bytes_a : BytesOk table_a 1
 unfolding byte_ok?
 bytes_a = bytes_ok table_a 1 tt
 
-servers_a : (b : ℕ) → 1 ≤ b → b ≤ 10 → AllByRecursion ServerOk (guests_a b)
+servers_a : (b : ℕ) → 1 ≤ b → b ≤ 10 → All ServerOk (guests_a b)
 servers_a b some within =
+    All-from_recursion ServerOk (guests_a b)
     (record { some = lit≤ tt; within = lit≤ tt; small = lit≤ tt }, (record { some = some; within = within; small = lit≤ tt }, tt))
 
 apart_a : (b k : ℕ) → k < 1 → Apart (guest_at (guests_a b) 1) (guest_at (guests_a b) k)
@@ -56,28 +59,29 @@ windows_a b zero lt = record { fits = record { some = lit≤ tt; within = lit≤
 windows_a b (suc zero) lt = record { fits = record { some = lit≤ tt; within = lit≤ tt }; apart = apart_a b }
 windows_a b (suc (suc i)) lt = absurd (omega arith)
 
-tasks_a_lem : (d : ℕ) → 2 ≤ d → d ≤ 20 → AllByRecursion TaskOk (tasks_a d)
-tasks_a_lem d due apart = (
-  record { some = lit≤ tt; due = due; apart = apart; small = lit≤ tt; cheap = lit≤ tt },
-  (record { some = lit≤ tt; due = lit≤ tt; apart = lit≤ tt; small = lit≤ tt; cheap = lit≤ tt }, tt),
-)
+tasks_a_ok : (d : ℕ) → 2 ≤ d → d ≤ 20 → All TaskOk (tasks_a d)
+tasks_a_ok d due apart =
+    All-from_recursion TaskOk (tasks_a d) (
+      record { some = lit≤ tt; due = due; apart = apart; small = lit≤ tt; cheap = lit≤ tt },
+      (record { some = lit≤ tt; due = lit≤ tt; apart = lit≤ tt; small = lit≤ tt; cheap = lit≤ tt }, tt),
+    )
 
 fixed_a : FixedsOk (Read 0 ∷ []) 64
 fixed_a zero lt = lit< tt
 fixed_a (suc i) lt = absurd (omega arith)
 
-operations_a_lem : (d b : ℕ) → OperationsOk (guests_a b) (tasks_a d) operations_a
+operations_a_inside : (d b : ℕ) → OperationsOk (guests_a b) (tasks_a d) operations_a
 unfolding operation_start task_start
-operations_a_lem d b zero zero lt share = record { from = lit≤ tt; to = lit< tt }
-operations_a_lem d b zero (suc zero) lt share = record { from = lit≤ tt; to = lit< tt }
-operations_a_lem d b zero (suc (suc q)) lt share = absurd (omega arith)
-operations_a_lem d b (suc zero) zero lt share = absurd (omega arith)
-operations_a_lem d b (suc zero) (suc zero) lt share = absurd (omega arith)
-operations_a_lem d b (suc zero) (suc (suc zero)) lt share = record { from = lit≤ tt; to = lit< tt }
-operations_a_lem d b (suc zero) (suc (suc (suc zero))) lt share = record { from = lit≤ tt; to = lit< tt }
-operations_a_lem d b (suc zero) (suc (suc (suc (suc zero)))) lt share = record { from = lit≤ tt; to = lit< tt }
-operations_a_lem d b (suc zero) (suc (suc (suc (suc (suc q))))) lt share = absurd (omega arith)
-operations_a_lem d b (suc (suc i)) q lt share = absurd (omega arith)
+operations_a_inside d b zero zero lt share = record { from = lit≤ tt; to = lit< tt }
+operations_a_inside d b zero (suc zero) lt share = record { from = lit≤ tt; to = lit< tt }
+operations_a_inside d b zero (suc (suc q)) lt share = absurd (omega arith)
+operations_a_inside d b (suc zero) zero lt share = absurd (omega arith)
+operations_a_inside d b (suc zero) (suc zero) lt share = absurd (omega arith)
+operations_a_inside d b (suc zero) (suc (suc zero)) lt share = record { from = lit≤ tt; to = lit< tt }
+operations_a_inside d b (suc zero) (suc (suc (suc zero))) lt share = record { from = lit≤ tt; to = lit< tt }
+operations_a_inside d b (suc zero) (suc (suc (suc (suc zero)))) lt share = record { from = lit≤ tt; to = lit< tt }
+operations_a_inside d b (suc zero) (suc (suc (suc (suc (suc q))))) lt share = absurd (omega arith)
+operations_a_inside d b (suc (suc i)) q lt share = absurd (omega arith)
 
 form_a : (d b : ℕ) → 2 ≤ d → d ≤ 20 → 1 ≤ b → b ≤ 10 → WellFormed (setup_a d b) 64
 form_a d b due apart some within = record {
@@ -85,9 +89,9 @@ form_a d b due apart some within = record {
   bytes = bytes_a;
   servers = servers_a b some within;
   windows = windows_a b;
-  tasks = tasks_a_lem d due apart;
+  tasks = tasks_a_ok d due apart;
   fixed = fixed_a;
-  operations = operations_a_lem d b;
+  operations = operations_a_inside d b;
 }
 
 -- rules 7 to 10 of setup A
@@ -110,9 +114,13 @@ guests_served_a : (d : ℕ) → 2 ≤ d → d ≤ 20 → T (below (tasks_served?
     → GuestsServed (guests_a 3) (tasks_a d)
 unfolding tasks_of task_start tasks_served? tasks_demand server_supply TasksHaveSpare task_shares
 guests_served_a d due apart test zero lt =
-    tasks_served 5 2 (record { separation = 20; cost = 2; deadline = d } ∷ []) (lit≤ tt) (lit≤ tt) ((tasks_a_lem d due apart).0, tt) (lit≤ tt) test
+    let first : Task = record { separation = 20; cost = 2; deadline = d } in
+    let rest : List Task = record { separation = 40; cost = 3; deadline = 20 } ∷ [] in
+    tasks_served 5 2 (first ∷ []) (lit≤ tt) (lit≤ tt) (All-from_recursion TaskOk (first ∷ []) (All-head TaskOk first rest (tasks_a_ok d due apart), tt)) (lit≤ tt) test
 guests_served_a d due apart test (suc zero) lt =
-    tasks_served 10 3 (record { separation = 40; cost = 3; deadline = 20 } ∷ []) (lit≤ tt) (lit≤ tt) (tasks_a_lem d due apart).1 (lit≤ tt) tt
+    let first : Task = record { separation = 20; cost = 2; deadline = d } in
+    let rest : List Task = record { separation = 40; cost = 3; deadline = 20 } ∷ [] in
+    tasks_served 10 3 rest (lit≤ tt) (lit≤ tt) (All-tail TaskOk first rest (tasks_a_ok d due apart)) (lit≤ tt) tt
 guests_served_a d due apart test (suc (suc i)) lt = absurd (omega arith)
 
 accepted_a : (d : ℕ) → 2 ≤ d → d ≤ 20 → T (below (tasks_served? 5 2 (record { separation = 20; cost = 2; deadline = d } ∷ [])) 600) → Accepted (setup_a d 3) 64
@@ -178,14 +186,14 @@ form_one table p b size bytes some within small = record {
     session = (lit≤ tt, lit≤ tt);
     table = size;
     fixed = lit≤ tt;
-    guests = record { some = lit≤ tt; few = lit≤ tt; tasks = (lit≤ tt, tt) };
+    guests = record { some = lit≤ tt; few = lit≤ tt; tasks = All-from_recursion FewTasks (guest p b 0 8 0 ∷ []) (lit≤ tt, tt) };
     tasks = refl;
     operations = refl;
   };
   bytes = bytes;
-  servers = (record { some = some; within = within; small = small }, tt);
+  servers = All-from_recursion ServerOk (guest p b 0 8 0 ∷ []) (record { some = some; within = within; small = small }, tt);
   windows = windows_one p b;
-  tasks = tt;
+  tasks = All-from_recursion TaskOk [] tt;
   fixed = fixed_a;
   operations = operations_one p b;
 }
@@ -225,7 +233,7 @@ bytes_free (suc i) lt = absurd (omega arith)
 
 link_served_free : (p b : ℕ) → 1 ≤ b → b ≤ p → p ≤ 1024 → LinkHasSpare (0 ∷ []) (guest p b 0 8 0 ∷ []) → LinkServed (0 ∷ []) (guest p b 0 8 0 ∷ [])
 link_served_free p b some within small spare =
-    link_served (0 ∷ []) (guest p b 0 8 0 ∷ []) 0 (lit< tt) (record { some = some; within = within; small = small }, tt) spare (lit≤ tt) tt
+    link_served (0 ∷ []) (guest p b 0 8 0 ∷ []) 0 (lit< tt) (All-from_recursion ServerOk (guest p b 0 8 0 ∷ []) (record { some = some; within = within; small = small }, tt)) spare (lit≤ tt) tt
 
 link_spare_100 : LinkHasSpare (0 ∷ []) (guest 100 1 0 8 0 ∷ [])
 unfolding LinkHasSpare server_shares

@@ -1,92 +1,47 @@
-use Rattle.std.proofs.Common.{◌≡◌, ◌+◌, ◌≤◌, refl, ap, subst, arith}
-use native.Mathlib.Decide.{dec_lt}
-use Rattle.admission.specs.Plan.{operation_start, Owns}
-use Rattle.admission.specs.Limits.{InsideAt}
-use Rattle.admission.proofs.Parts.{start_none, part, tasks_within, operation_start_none, operations_end, operation_start_grows, owner_before}
+use Rattle.std.proofs.Common.{◌≡◌, ℕ, ◌+◌, ◌-◌, ◌<◌, ◌≤◌, length, take, drop, sym, ap, ◌∙◌, subst, rules, arith, length-take, length-drop}
+use Rattle.decline.specs.declared.Decline.TheVariants.{OperationRegister}
+use Rattle.decline.specs.Refusals.{numbers_of}
+use Rattle.std.specs.List.{All}
+use Rattle.admission.specs.Plan.{no_operation, guest_at, operation_at, operation_start}
+use Rattle.admission.specs.Limits.{Inside, InsideHolds, InsideAt}
+use Rattle.admission.specs.Verdict.{First}
+use Rattle.admission.proofs.Parts.{part-at, operation_start_grows, owned-more, owned-first}
 use Rattle.admission.proofs.limits.check_operations.Goals as goal
-
-pub loop-i-init : goal.loop-i-init
-loop-i-init c =
-    (start_none c.args.guests.now, operation_start_none c.args.guests.now c.args.tasks.now, λ k q h. absurd (omega arith))
-
-pub overflow_add-next_task : goal.overflow_add-next_task
-overflow_add-next_task c = omega (arith, (part c.args.guests.now c.args.tasks.now c.loop-i.i c.loop-i.task c.requires.agreeing c.loop-i-test.true c.loop-i.invariant.0).within)
-
-pub cost_between-requires : goal.cost_between-requires
-cost_between-requires c =
-    let p = part c.args.guests.now c.args.tasks.now c.loop-i.i c.loop-i.task c.requires.agreeing c.loop-i-test.true c.loop-i.invariant.0 in
-    (omega arith, (p.within, omega (arith, p.within, tasks_within c.args.guests.now c.args.tasks.now c.requires.agreeing)))
-
-pub overflow_add-to : goal.overflow_add-to
-overflow_add-to c =
-    omega (
-      arith,
-      c.requires.costs,
-      (operations_end c.args.guests.now c.args.tasks.now c.loop-i.i c.loop-i.task c.loop-i.from c.cost_between.result c.requires.agreeing c.loop-i-test.true c.loop-i.invariant.0 c.loop-i.invariant.1 c.cost_between.ensures).1,
-    )
-
-pub first_outside-requires : goal.first_outside-requires
-first_outside-requires c = (
-  omega arith,
-  omega (
-    arith,
-    c.requires.costs,
-    (operations_end c.args.guests.now c.args.tasks.now c.loop-i.i c.loop-i.task c.loop-i.from c.cost_between.result c.requires.agreeing c.loop-i-test.true c.loop-i.invariant.0 c.loop-i.invariant.1 c.cost_between.ensures).1,
-  ),
-)
-
-pub overflow_add-result-in-Some : goal.overflow_add-result-in-Some
-overflow_add-result-in-Some c =
-    omega (
-      arith,
-      c.in-Some.ensures,
-      c.requires.costs,
-      (operations_end c.args.guests.now c.args.tasks.now c.loop-i.i c.loop-i.task c.loop-i.from c.cost_between.result c.requires.agreeing c.loop-i-test.true c.loop-i.invariant.0 c.loop-i.invariant.1 c.cost_between.ensures).1,
-    )
 
 pub returns-in-Some : goal.returns-in-Some
 returns-in-Some c =
-    let gs = c.args.guests.now in
-    let start = operation_start gs c.args.tasks.now in
+    let gs = c.args.parties.now.guests.now in
+    let ks = c.args.parties.now.tasks.now in
+    let os = c.args.operations.now in
+    let start = operation_start gs ks in
     let i = c.loop-i.i in
-    let q = c.in-Some.q in
-    let found = c.in-Some.ensures in
-    let e = operations_end c.args.guests.now c.args.tasks.now c.loop-i.i c.loop-i.task c.loop-i.from c.cost_between.result c.requires.agreeing c.loop-i-test.true c.loop-i.invariant.0 c.loop-i.invariant.1 c.cost_between.ensures in
-    let here : Owns start i q = (omega (arith, found.0, c.loop-i.invariant.1), omega (arith, found.1, e.0)) in (
+    let j = c.in-Some.q in
+    let from = c.operation_start-from.ensures.value in
+    let own = take (c.operation_start-to.result - c.operation_start-from.result) (drop c.operation_start-from.result os) in
+    let found : First (InsideHolds (guest_at gs i) own) j × (j < length own) = search rules in
+    let count : length own ≤ c.operation_start-to.result - c.operation_start-from.result = simp length-take (omega arith) in
+    let at : (l : ℕ) → l < length own → operation_at own l ≡ operation_at os (start i + l) =
+    λ l h. part-at os _ _ l no_operation (omega (arith, h, count)) ∙ ap (λ n. operation_at os (n + l)) from in (
       i,
-      q,
-      refl,
-      record {
-        guest = c.loop-i-test.true;
-        owned = here;
-        broken = found.2;
-        before = λ k l lt share h.
-            elim (dec_lt k i) [
-              | yes b ↦ c.loop-i.invariant.2 k l b share
-              | no b ↦
-                  (let le : k ≤ i = owner_before start (operation_start_grows gs c.args.tasks.now) i q k l here share (omega arith) in
-                  let same : i ≡ k = omega (arith, b) in
-                  subst (λ n. InsideAt gs c.args.operations.now n l) same (found.3 l (omega (arith, share.0, ap start same, c.loop-i.invariant.1)) h))
-            ];
-      },
+      start i + j,
+      ap (λ n. numbers_of (OperationRegister (i + 1) (n + j + 1))) from,
+      owned-first (length gs) start (operation_start_grows gs ks) (InsideAt gs os) i c.loop-i.invariant j c.loop-i-test.true (omega (arith, found.1, count))
+          (λ ok. found.0.broken (subst (Inside (guest_at gs i)) (sym (at j found.1)) ok))
+          (λ l h. subst (Inside (guest_at gs i)) (at l (omega (arith, h, found.1))) (found.0.before l h)),
     )
 
 pub loop-i-preserved : goal.loop-i-preserved
 loop-i-preserved c =
-    let gs = c.args.guests.now in
-    let ks = c.args.tasks.now in
+    let gs = c.args.parties.now.guests.now in
+    let ks = c.args.parties.now.tasks.now in
+    let os = c.args.operations.now in
     let start = operation_start gs ks in
     let i = c.loop-i.i in
-    let p = part gs ks i c.loop-i.task c.requires.agreeing c.loop-i-test.true c.loop-i.invariant.0 in
-    let e = operations_end c.args.guests.now c.args.tasks.now c.loop-i.i c.loop-i.task c.loop-i.from c.cost_between.result c.requires.agreeing c.loop-i-test.true c.loop-i.invariant.0 c.loop-i.invariant.1 c.cost_between.ensures in (
-      p.next,
-      e.0,
-      λ k q lt share.
-          elim (dec_lt k i) [
-            | yes b ↦ c.loop-i.invariant.2 k q b share
-            | no b ↦
-                (let same : i ≡ k = omega (arith, b) in
-                subst (λ n. InsideAt gs c.args.operations.now n q) same
-                (c.in_default.ensures q (omega (arith, share.0, ap start same, c.loop-i.invariant.1)) (omega (arith, share.1, ap (λ n. start (n + 1)) same, e.0))))
-          ],
-    )
+    let from = c.operation_start-from.ensures.value in
+    let own = take (c.operation_start-to.result - c.operation_start-from.result) (drop c.operation_start-from.result os) in
+    let all : All (Inside (guest_at gs i)) own = search rules in
+    let long : length own ≡ c.operation_start-to.result - c.operation_start-from.result = simp (length-take, length-drop) (omega (arith, c.requires)) in
+    owned-more (length gs) start (operation_start_grows gs ks) (InsideAt gs os) i c.loop-i.invariant
+    (λ l h.
+    let inside : l < length own = omega (arith, long, h) in
+    subst (Inside (guest_at gs i)) (part-at os _ _ l no_operation (omega (arith, long, inside)) ∙ ap (λ n. operation_at os (n + l)) from) (all l no_operation inside))

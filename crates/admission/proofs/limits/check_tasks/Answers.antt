@@ -1,44 +1,53 @@
-use Rattle.std.proofs.Common.{◌+◌, ◌-◌, ap, arith}
-use native.Mathlib.Decide.{dec_lt}
-use Rattle.std.proofs.ByRecursion.{All-from_get_or}
+use Rattle.std.proofs.Common.{◌≡◌, ◌+◌, ◌-◌, ◌<◌, length, refl, sym, ap, subst, rules, arith}
+use Rattle.std.specs.List.{All}
+use Rattle.std.proofs.lemmas.List.Elements.{All-from_get_or}
 use Rattle.decline.specs.declared.Decline.TheVariants.{TaskLimits}
 use Rattle.decline.specs.Refusals.{numbers_of}
-use Rattle.admission.specs.Plan.{no_task}
-use Rattle.admission.specs.Limits.{TaskOk}
-use Rattle.admission.proofs.Parts.{start_none, start_all, part}
+use Rattle.admission.specs.Plan.{no_task, guest_at, task_count_of, task_start, tasks_of}
+use Rattle.admission.specs.Limits.{TaskOk, TaskHolds, TaskOkAt}
+use Rattle.admission.specs.Verdict.{First}
+use Rattle.admission.proofs.Parts.{part, tasks_of-at, tasks_of-length, task_start_grows, task_start-all, owner, owned-more, owned-first}
 use Rattle.admission.proofs.limits.check_tasks.Goals as goal
-
-pub loop-i-init : goal.loop-i-init
-loop-i-init c = (start_none c.args.guests.now, λ k h. absurd (omega arith))
-
-pub overflow_add-to : goal.overflow_add-to
-overflow_add-to c = omega (arith, (part c.args.guests.now c.args.tasks.now c.loop-i.i c.loop-i.from c.requires c.loop-i-test.true c.loop-i.invariant.0).within)
-
-pub first_bad_task-requires : goal.first_bad_task-requires
-first_bad_task-requires c =
-    (omega arith, (part c.args.guests.now c.args.tasks.now c.loop-i.i c.loop-i.from c.requires c.loop-i-test.true c.loop-i.invariant.0).within)
 
 pub returns-in-Some : goal.returns-in-Some
 returns-in-Some c =
-    let p = part c.args.guests.now c.args.tasks.now c.loop-i.i c.loop-i.from c.requires c.loop-i-test.true c.loop-i.invariant.0 in
-    let found = c.in-Some.ensures in (
-      c.loop-i.i,
-      c.in-Some.j,
-      ap (λ s. numbers_of (TaskLimits (c.loop-i.i + 1) (c.in-Some.j - s + 1))) c.loop-i.invariant.0,
-      record {
-        guest = c.loop-i-test.true;
-        owned = (omega (arith, found.0, c.loop-i.invariant.0), omega (arith, found.1, p.next));
-        broken = found.2;
-        before = λ k l lt share h. elim (dec_lt l c.loop-i.from) [ yes b ↦ c.loop-i.invariant.1 l b | no b ↦ found.3 l (omega (arith, b)) h ];
-      },
+    let gs = c.args.parties.now.guests.now in
+    let ks = c.args.parties.now.tasks.now in
+    let start = task_start gs in
+    let i = c.loop-i.i in
+    let j = c.in-Some.j in
+    let p = part gs ks i c.args.parties.now.agreeing c.loop-i-test.true in
+    let found : First (TaskHolds c.tasks_of.result.now) j × (j < length c.tasks_of.result.now) = search rules in
+    let own : First (TaskHolds (tasks_of gs ks i)) j × (j < length (tasks_of gs ks i)) = rw c.tasks_of.ensures at found in
+    let long = tasks_of-length gs ks i p in
+    let place : start i + j - start i ≡ j = omega arith in (
+      i,
+      start i + j,
+      ap (λ n. numbers_of (TaskLimits (i + 1) (n + 1))) (sym place),
+      owned-first (length gs) start (task_start_grows gs) (TaskOkAt ks) i c.loop-i.invariant j c.loop-i-test.true (omega (arith, own.1, long, p.next))
+          (λ ok. own.0.broken (subst TaskOk (sym (tasks_of-at gs ks i j (omega (arith, own.1, long)))) ok))
+          (λ l h. subst TaskOk (tasks_of-at gs ks i l (omega (arith, h, own.1, long))) (own.0.before l h)),
     )
 
 pub loop-i-preserved : goal.loop-i-preserved
 loop-i-preserved c =
-    let p = part c.args.guests.now c.args.tasks.now c.loop-i.i c.loop-i.from c.requires c.loop-i-test.true c.loop-i.invariant.0 in
-    (p.next, λ k h. elim (dec_lt k c.loop-i.from) [ yes b ↦ c.loop-i.invariant.1 k b | no b ↦ c.in_default.ensures k (omega (arith, b)) h ])
+    let gs = c.args.parties.now.guests.now in
+    let ks = c.args.parties.now.tasks.now in
+    let i = c.loop-i.i in
+    let p = part gs ks i c.args.parties.now.agreeing c.loop-i-test.true in
+    let found : All TaskOk c.tasks_of.result.now = search rules in
+    let own : All TaskOk (tasks_of gs ks i) = rw c.tasks_of.ensures at found in
+    owned-more (length gs) (task_start gs) (task_start_grows gs) (TaskOkAt ks) i c.loop-i.invariant
+    (λ l h.
+    let inside : l < task_count_of (guest_at gs i) = omega (arith, h, p.next) in
+    subst TaskOk (tasks_of-at gs ks i l inside) (own l no_task (omega (arith, inside, tasks_of-length gs ks i p))))
 
 pub returns : goal.returns
+unfolding task_start
 returns c =
-    All-from_get_or TaskOk c.args.tasks.now no_task
-    (λ j h. c.loop-i.invariant.1 j (omega (arith, h, c.loop-i.invariant.0, start_all c.args.guests.now c.args.tasks.now c.loop-i.i c.requires c.loop-i-test.false)))
+    let gs = c.args.parties.now.guests.now in
+    let ks = c.args.parties.now.tasks.now in
+    All-from_get_or TaskOk ks no_task
+    (λ j h.
+    let own = owner (task_start gs) refl c.loop-i.i j (omega (arith, h, task_start-all gs ks c.loop-i.i c.args.parties.now.agreeing c.loop-i-test.false)) in
+    c.loop-i.invariant own.0 j own.1 own.2)

@@ -1,7 +1,7 @@
-use Rattle.std.proofs.Common.{◌≡◌, ℕ, ◌<◌}
-use Rattle.admission.specs.Plan.{task_start}
-use Rattle.admission.specs.Limits.{TaskHolds}
+use Rattle.std.proofs.Common.{ℕ, ◌<◌}
+use Rattle.admission.specs.Plan.{task_start, Owns}
+use Rattle.admission.specs.Limits.{TaskOkAt}
 use Rattle.admission.proofs.limits.check_tasks.Given as goal
 
 abbrev pub invariant-loop-i : goal.invariant-loop-i
-invariant-loop-i l = (l.from ≡ task_start l.guests l.i) × ((k : ℕ) → k < l.from → TaskHolds l.tasks k)
+invariant-loop-i l = (k j : ℕ) → k < l.i → Owns (task_start l.parties.guests.now) k j → TaskOkAt l.parties.tasks.now k j

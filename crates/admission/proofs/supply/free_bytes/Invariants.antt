@@ -3,4 +3,4 @@ use Rattle.admission.specs.Supply.{free_bytes}
 use Rattle.admission.proofs.supply.free_bytes.Given as goal
 
 abbrev pub invariant-loop-byte : goal.invariant-loop-byte
-invariant-loop-byte l = (l.free ≤ l.byte-index) × (l.free ≡ free_bytes (take l.byte-index l.table))
+invariant-loop-byte l = (l.free ≤ l.byte-index) × (l.free ≡ free_bytes (take l.byte-index l.bytes))
