@@ -14,7 +14,7 @@ use Rattle.admission.specs.Laws.{TasksConfined}
 use Rattle.admission.proofs.Bounds.{link_confined-streams, tasks_confined, link_near}
 use Rattle.admission.proofs.Flat.{streams_demand-servers}
 
--- tasks that are served below their bound are always served
+-- what the search over tasks answers: none, and then they are always served, or the first number of slots in which they are not
 pub tasks_first_short : (p b : ℕ) (ks : List Task) (end : ℕ) (r : Option ℕ) → 1 ≤ b → b ≤ p → All TaskOk ks → TasksHaveSpare p b ks
     → end ≡ 100 * (2 * b + sum_by cost_of ks)
     → MatchOption r ((t : ℕ) → t < end → ServedAt (λ k. k) ks (server_supply p b) t) (First (ServedAt (λ k. k) ks (server_supply p b)))

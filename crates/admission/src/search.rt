@@ -1,5 +1,4 @@
 // Rules 7 to 10 of a setup: the spare hundredth, and the search for a number of slots in which demand is above supply.
-ghost use Rattle.std.specs.Prelude.{MatchResult};
 ghost use Rattle.decline.specs.declared.Decline.TheVariants.{LinkSpare};
 ghost use Rattle.admission.specs.Demand.{LinkHasSpare, LinkServed};
 ghost use Rattle.admission.specs.Verdict.{Decides, Only, LinkFault, GuestsHaveSpare, GuestsServed, SparesFault, GuestsFault};

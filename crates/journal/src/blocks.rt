@@ -3,7 +3,7 @@ ghost use Rattle.std.specs.Prelude.{◌≡◌, ◌+◌, ◌-◌, ◌*◌, ◌<�
 ghost use Rattle.std.specs.List.{flat_map};
 ghost use Rattle.decline.specs.Refusals.{by_numbers};
 ghost use Rattle.journal.specs.Entries.{entry_bytes};
-ghost use Rattle.journal.specs.Bytes.{number2, number4};
+ghost use Rattle.journal.specs.Bytes.{number4};
 ghost use Rattle.journal.specs.Blocks.{count_in, first_slot_in, entry_in, header_bytes, sum_bytes, place_bytes, entries_in, all_zero, entry_fits, sums_agree, header_lawful, place_lawful, first_failing};
 ghost use Rattle.journal.specs.Calls.{entries_answer, write_answer, block_left, block_after, block_answer, read_sized, read_answer, places_left, places_after, ReadsBack, WritesBack, NeverWritten};
 

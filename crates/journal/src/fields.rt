@@ -1,6 +1,5 @@
 // The nine fields of an entry's sixteen bytes, and what they spell.
 ghost use Rattle.std.specs.Prelude.{◌≡◌, ◌==◌, ◌&&◌};
-ghost use Rattle.journal.specs.Bytes.{number2, number4};
 ghost use Rattle.journal.specs.Kind.{IsKindOf};
 ghost use Rattle.journal.specs.Entries.{fields_of, field_bytes, fields_at, no_access, some_access, unassigned_fields, fixed_fields, used_fields, idle_fields, lawful, access_from, event_from, entry_from, fits};
 
