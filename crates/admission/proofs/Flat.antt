@@ -19,6 +19,7 @@ task_small_at t k ok le =
     let c : k.cost ≤ k.separation = omega (arith, ok) in
     omega (arith, mul-le-mul_left q c, div-mul-le_self (t - k.deadline) k.separation, ok.due)
 
+-- so it is below its deadline, where it is nothing
 pub task_small : (t : ℕ) (k : Task) → StreamOk k → task_demand t k ≤ t
 task_small t k ok =
     elim (dec_lt t k.deadline) [
@@ -53,6 +54,7 @@ streams_demand-flat task t u s (x ∷ xs) flat from to =
 pub server_stream : (g : Guest) → ServerOk g → StreamOk (server_task g)
 server_stream g ok = record { some = ok.some; due = ok.within; apart = omega arith; small = omega (arith, ok.small) }
 
+-- and so are all servers that keep their limits
 pub servers_streams : (gs : List Guest) → All ServerOk gs → StreamsOk server_task gs
 servers_streams gs ok = All-weaker ServerOk (λ g. StreamOk (server_task g)) server_stream gs ok
 
@@ -70,6 +72,7 @@ server_demand-as_task t p b pos =
           rw (le-ltb t p le, q) refl)
     ]
 
+-- and so have all servers together
 pub streams_demand-servers : (gs : List Guest) (t : ℕ) → StreamsOk server_task gs → streams_demand server_task gs t ≡ servers_demand gs t
 unfolding servers_demand
 streams_demand-servers [] t ok = refl

@@ -18,6 +18,7 @@ pub record Part (gs : List Guest) (ks : List Task) (i : ℕ) : Type 0 where
   pub next : task_start gs i + task_count_of (guest_at gs i) ≡ task_start gs (i + 1)
   pub within : task_start gs i + task_count_of (guest_at gs i) ≤ length ks
 
+-- it is known of each guest
 pub part : (gs : List Guest) (ks : List Task) (i : ℕ) → Agreeing gs ks → i < length gs → Part gs ks i
 unfolding task_start
 part gs ks i agreeing lt =
@@ -43,7 +44,7 @@ pub operation_start-within : (gs : List Guest) (ks : List Task) (i : ℕ) → op
 unfolding operation_start
 operation_start-within gs ks i = sum_by-take-le cost_of ks (task_start gs i)
 
--- the tasks of guest i are a part of the list, at most 8, and each keeps what all keep
+-- the tasks of guest i are the part of the list from its start on
 pub tasks_of-part : (gs : List Guest) (ks : List Task) (i from count : ℕ) → from ≡ task_start gs i → count ≡ task_count_of (guest_at gs i)
     → take (from + count - from) (drop from ks) ≡ tasks_of gs ks i
 unfolding tasks_of
@@ -60,14 +61,17 @@ pub tasks_of-at : (gs : List Guest) (ks : List Task) (i j : ℕ) → j < task_co
 unfolding tasks_of
 tasks_of-at gs ks i j lt = part-at ks (task_start gs i) (task_count_of (guest_at gs i)) j no_task lt
 
+-- there are as many as the guest counts
 pub tasks_of-length : (gs : List Guest) (ks : List Task) (i : ℕ) → Part gs ks i → length (tasks_of gs ks i) ≡ task_count_of (guest_at gs i)
 unfolding tasks_of
 tasks_of-length gs ks i p = simp (length-take, length-drop) (omega (arith, p.within))
 
+-- they are at most 8
 pub tasks_of-few : (gs : List Guest) (ks : List Task) (i : ℕ) → task_count_of (guest_at gs i) ≤ 8 → length (tasks_of gs ks i) ≤ 8
 unfolding tasks_of
 tasks_of-few gs ks i few = simp length-take (omega (arith, few))
 
+-- each keeps its limits where all tasks do
 pub tasks_of-ok : (gs : List Guest) (ks : List Task) (i : ℕ) → All TaskOk ks → All TaskOk (tasks_of gs ks i)
 unfolding tasks_of
 tasks_of-ok gs ks i ok = All-take TaskOk (task_count_of (guest_at gs i)) (drop (task_start gs i) ks) (All-drop TaskOk (task_start gs i) ks ok)
@@ -89,13 +93,16 @@ costs_bounded ks few ok =
 abbrev pub Grows : (ℕ → ℕ) → Type 0
 Grows start = (a b : ℕ) → a ≤ b → start a ≤ start b
 
+-- a longer front of a list has no smaller sum
 prefix_grows : {X : Type 0} (f : X → ℕ) (xs : List X) (a b : ℕ) → a ≤ b → sum_by f (take a xs) ≤ sum_by f (take b xs)
 prefix_grows f xs a b le = rw (sym (ap (sum_by f) (take-take a b xs le))) (sum_by-take-le f (take b xs) a)
 
+-- the starts of tasks do not fall
 pub task_start_grows : (gs : List Guest) → Grows (task_start gs)
 unfolding task_start
 task_start_grows gs a b le = prefix_grows task_count_of gs a b le
 
+-- nor do those of operations
 pub operation_start_grows : (gs : List Guest) (ks : List Task) → Grows (operation_start gs ks)
 unfolding operation_start
 operation_start_grows gs ks a b le = prefix_grows cost_of ks (task_start gs a) (task_start gs b) (task_start_grows gs a b le)

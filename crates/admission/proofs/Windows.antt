@@ -7,9 +7,11 @@ use native.Mathlib.Nat.{add-mod_right, mod-add-div'}
 use Rattle.admission.specs.Supply.{free?, free_bytes, slot_free, window_free, least_to, supply}
 use Rattle.admission.specs.Laws.{Least, SupplyIsLeast, SupplyRepeats}
 
+-- a slot counts at most once
 pub slot_le : (xs : List ℕ) (s : ℕ) → slot_free xs s ≤ 1
 slot_le xs s = elim (free? (get_or xs (s % length xs) 0)) as (λ b. cond b 1 0 ≤ 1) [ true ↦ omega arith | false ↦ omega arith ]
 
+-- a window of t slots has at most t free ones
 pub window_le : (xs : List ℕ) (s t : ℕ) → window_free xs s t ≤ t
 unfolding window_free
 window_le xs s zero = omega arith
@@ -21,6 +23,7 @@ unfolding window_free
 window_slide xs s zero = ap (λ n. 0 + slot_free xs n) (sym (add-zero s))
 window_slide xs s (suc t) = omega (arith, window_slide xs s t, ap (slot_free xs) (suc-add s t), ap (slot_free xs) (add-suc s t))
 
+-- one start more: the least is the lesser of the least so far and the new window
 pub least_more : (xs : List ℕ) (t n : ℕ) → least_to xs t (n + 1) ≡ min (least_to xs t n) (window_free xs (n + 1) t)
 unfolding least_to
 least_more xs t n = let e : n + 1 ≡ suc n = omega arith in rw e refl
@@ -35,6 +38,7 @@ least_lower xs t (suc n) k h =
       | no d ↦ let b : k ≤ n = omega (arith, d) in omega (arith, least_lower xs t n k b)
     ]
 
+-- the least is attained by one of the starts
 pub least_attained : (xs : List ℕ) (t n : ℕ) → (k : ℕ) × (k ≤ n) × (window_free xs k t ≡ least_to xs t n)
 unfolding least_to
 least_attained xs t zero = (0, omega arith, refl)
@@ -49,6 +53,7 @@ least_attained xs t (suc n) =
 pub slot_repeats : (xs : List ℕ) (s : ℕ) → slot_free xs (s + length xs) ≡ slot_free xs s
 slot_repeats xs s = let e : (s + length xs) % length xs ≡ s % length xs = add-mod_right s (length xs) in rw e refl
 
+-- and so do its windows
 pub window_repeats : (xs : List ℕ) (s t : ℕ) → window_free xs (s + length xs) t ≡ window_free xs s t
 unfolding window_free
 window_repeats xs s zero = refl
@@ -82,6 +87,7 @@ window_front xs (suc i) h =
     let e : i + 1 ≡ suc i = omega arith in
     omega (arith, window_front xs i (omega arith), b, sum_by_more (λ x. cond (free? x) 1 0) xs i 0 lt, ap (λ n. count_by free? (take n xs)) e)
 
+-- that many are the free bytes of the table
 pub window_whole : (xs : List ℕ) (s : ℕ) → window_free xs s (length xs) ≡ free_bytes xs
 window_whole xs s =
     window_whole_from xs s ∙ window_front xs (length xs) (le_refl _) ∙ ap free_bytes (take_all (length xs) xs (le_refl _))
@@ -90,15 +96,18 @@ window_whole xs s =
 pub window_period : (xs : List ℕ) (s t : ℕ) → window_free xs s (t + length xs) ≡ window_free xs s t + free_bytes xs
 window_period xs s t = omega (arith, window_add xs s t (length xs), window_whole xs (s + t))
 
+-- the same of the least of several windows
 pub least_period : (xs : List ℕ) (t n : ℕ) → least_to xs (t + length xs) n ≡ least_to xs t n + free_bytes xs
 unfolding least_to
 least_period xs t zero = window_period xs 0 t
 least_period xs t (suc n) = omega (arith, least_period xs t n, window_period xs (suc n) t)
 
+-- and so of S
 pub supply_period : (xs : List ℕ) (t : ℕ) → supply xs (t + length xs) ≡ supply xs t + free_bytes xs
 unfolding supply
 supply_period xs t = least_period xs t (length xs - 1)
 
+-- and for each round of the table
 pub supply_periods : (xs : List ℕ) (t q : ℕ) → supply xs (t + q * length xs) ≡ supply xs t + q * free_bytes xs
 supply_periods xs t zero = let e : t + 0 * length xs ≡ t = omega arith in omega (arith, ap (supply xs) e)
 supply_periods xs t (suc q) =
@@ -109,6 +118,7 @@ supply_periods xs t (suc q) =
 pub supply_law : (xs : List ℕ) (t : ℕ) → supply xs t ≡ supply xs (t % length xs) + t / length xs * free_bytes xs
 supply_law xs t = ap (supply xs) (sym (mod-add-div' t (length xs))) ∙ supply_periods xs (t % length xs) (t / length xs)
 
+-- windows repeat after any number of rounds
 pub window_repeats_all : (xs : List ℕ) (s q t : ℕ) → window_free xs (s + q * length xs) t ≡ window_free xs s t
 window_repeats_all xs s zero t = let e : s + 0 * length xs ≡ s = omega arith in ap (λ k. window_free xs k t) e
 window_repeats_all xs s (suc q) t =
@@ -132,11 +142,12 @@ pub supply_small : (xs : List ℕ) (t : ℕ) → supply xs t ≤ t
 unfolding supply
 supply_small xs t = omega (arith, least_lower xs t (length xs - 1) 0 (omega arith), window_le xs 0 t)
 
--- both laws of S
+-- S(t) is the least number, the law
 pub supply_is_least : SupplyIsLeast
 unfolding SupplyIsLeast
 supply_is_least table t pos = supply_least table t pos
 
+-- S goes on by F for each round, the law
 pub supply_repeats : SupplyRepeats
 unfolding SupplyRepeats
 supply_repeats table t le = supply_law table t

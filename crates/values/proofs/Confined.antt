@@ -12,10 +12,12 @@ use Rattle.admission.specs.Laws.{LinkConfined, TasksConfined}
 use Rattle.admission.proofs.Windows.{supply_law}
 use Rattle.admission.proofs.Bounds.{link_confined, tasks_confined}
 
+-- of two tests that both pass, the first passes
 and_left : (a b : Bool) → T (a && b) → T a
 and_left true b t = tt
 and_left false b t = t
 
+-- and the second
 and_right : (a b : Bool) → T (a && b) → T b
 and_right true b t = t
 and_right false b t = absurd t
@@ -25,6 +27,7 @@ abbrev pub below : (ℕ → Bool) → ℕ → Bool
 below f zero = true
 below f (suc n) = f n && below f n
 
+-- a test that passes at each number below n passes at each of them
 pub below_at : (f : ℕ → Bool) (n : ℕ) → T (below f n) → (t : ℕ) → t < n → T (f t)
 below_at f zero ok t h = absurd (omega arith)
 below_at f (suc n) ok t h =
@@ -37,6 +40,7 @@ below_at f (suc n) ok t h =
 unfoldable pub tasks_served? : ℕ → ℕ → List Task → ℕ → Bool
 tasks_served? p b ks t = leb (tasks_demand ks t) (server_supply p b t)
 
+-- tasks that pass the test below their bound are always served
 pub tasks_served : (p b : ℕ) (ks : List Task) → 1 ≤ b → b ≤ p → All TaskOk ks → TasksHaveSpare p b ks
     → T (below (tasks_served? p b ks) (100 * (2 * b + sum_by cost_of ks))) → TasksServed p b ks
 unfolding tasks_served? TasksConfined
@@ -51,6 +55,7 @@ quick_supply table t = supply table (t % length table) + t / length table * free
 unfoldable pub link_served? : List ℕ → List Guest → ℕ → Bool
 link_served? table gs t = leb (servers_demand gs t) (quick_supply table t)
 
+-- servers that pass the test below their bound are always served
 pub link_served : (table : List ℕ) (gs : List Guest) (n : ℕ) → 0 < length table → All ServerOk gs → LinkHasSpare table gs
     → 100 * (free_bytes table * (length table - 1)) ≤ n * length table → T (below (link_served? table gs) n) → LinkServed table gs
 unfolding link_served? quick_supply LinkConfined
