@@ -1,5 +1,5 @@
 -- Why the search may stop: demand in millionths against supply in millionths, with a hundredth to spare.
-use Rattle.std.proofs.Common.{◌≡◌, ℕ, zero, suc, ◌+◌, ◌-◌, ◌*◌, ◌/◌, ◌%◌, ◌<◌, ◌≤◌, cond, ltb, List, [], ◌∷◌, length, get_or, sum_by, le_trans, lt_of_lt_of_le, mul-le-mul_right, mod-lt, div-lt_iff_lt-mul, lt_of_mul-lt-mul_right, mul-le-mul_left, div-mul-le_self, arith, le-ltb, lt-ltb}
+use Rattle.std.proofs.Common.{◌≡◌, ℕ, zero, suc, ◌+◌, ◌-◌, ◌*◌, ◌/◌, ◌%◌, ◌<◌, ◌≤◌, cond, ltb, List, [], ◌∷◌, length, get_or, sum_by, ap, le_trans, lt_of_lt_of_le, mul-le-mul_right, mod-lt, div-lt_iff_lt-mul, lt_of_mul-lt-mul_right, mul-le-mul_left, div-mul-le_self, arith, le-ltb, lt-ltb}
 use native.Mathlib.Decide.{dec_lt}
 use native.Mathlib.Nat.{mod-add-div', lt-div-mul-add, le_of_mul-le-mul_left}
 use Rattle.std.specs.List.{All}
@@ -12,7 +12,7 @@ use Rattle.admission.specs.Supply.{free_bytes, supply}
 use Rattle.admission.specs.Demand.{share_up, server_demand, servers_demand, task_demand, tasks_demand, server_supply, server_share, server_shares, task_share, task_shares, LinkHasSpare, LinkServedAt, LinkServed, TasksHaveSpare, TasksServed}
 use Rattle.admission.specs.Limits.{TaskOk}
 use Rattle.admission.specs.Streams.{server_task, StreamOk, StreamsOk, stream_shares}
-use Rattle.admission.specs.Laws.{LinkConfined, TasksConfined}
+use Rattle.admission.specs.Laws.{LinkConfined, TasksConfined, DueWithin, TasksConfinedByDeadlines}
 use Rattle.admission.proofs.Windows.{supply_law}
 use Rattle.admission.proofs.Flat.{servers_streams}
 
@@ -26,6 +26,7 @@ share_small a b pos le =
     let lt : share_up a b < 1000001 = (div-lt_iff_lt-mul pos).1 (omega arith) in
     omega arith
 
+-- a stream that keeps its limits has a share of at most a million
 stream_share_small : (k : Task) → StreamOk k → task_share k ≤ 1000000
 stream_share_small k ok = share_small k.cost k.separation (omega (arith, ok)) (omega (arith, ok))
 
@@ -41,6 +42,7 @@ server_demand-bound : (t p b : ℕ) → 0 < p → 1000000 * (t / p * b) ≤ t * 
 server_demand-bound t p b pos =
     omega (arith, mul-le-mul_left (t / p) (share_up-bound b p pos), mul-le-mul_right (share_up b p) (div-mul-le_self t p))
 
+-- the servers' demand together in millionths
 servers_share : (t : ℕ) (gs : List Guest) → StreamsOk server_task gs → 1000000 * sum_by (server_demand t) gs ≤ t * sum_by server_share gs
 servers_share t [] ok = omega arith
 servers_share t (g ∷ gs) ok =
@@ -59,6 +61,7 @@ link_arith t h F A f q r D S split low floor spare demand sup far =
     let k : suc h * D ≤ suc h * (q * F) = omega (arith, a, b, d, m, far) in
     le_trans (le_of_mul-le-mul_left {k = suc h} k (omega arith)) sup
 
+-- the same with H above 0
 link_arith_at : (t H F A D S : ℕ) → 0 < H → A + 10000 ≤ 1000000 * F / H → 1000000 * D ≤ t * A → t / H * F ≤ S
     → 100 * (F * (H - 1)) ≤ t * H → D ≤ S
 link_arith_at t zero F A D S pos spare demand sup far = absurd (omega arith)
@@ -80,6 +83,7 @@ link_confined-streams table gs pos ok spare near t =
           pos spare (servers_share t gs ok) (omega (arith, supply_law table t)) (omega (arith, h))
     ]
 
+-- the law of the link, of servers that keep their limits
 pub link_confined : LinkConfined
 unfolding LinkConfined
 link_confined table gs pos ok spare near = link_confined-streams table gs pos (servers_streams gs ok) spare near
@@ -101,6 +105,7 @@ task_demand-bound t c d s pos =
           rw (le-ltb t d le) (omega (arith, mul-le-mul_left q (share_up-bound c s pos), mul-le-mul_right (share_up c s) low)))
     ]
 
+-- the demand of tasks together in millionths
 tasks_share : (t : ℕ) (ks : List Task) → All TaskOk ks → 1000000 * sum_by (task_demand t) ks ≤ t * sum_by task_share ks + 1000000 * sum_by cost_of ks
 tasks_share t [] ok = omega arith
 tasks_share t (k ∷ ks) ok =
@@ -108,20 +113,26 @@ tasks_share t (k ∷ ks) ok =
     rw (sum_by-cons (task_demand t) k ks, sum_by-cons task_share k ks, sum_by-cons cost_of k ks)
     (omega (arith, tasks_share t ks (All-tail TaskOk k ks ok), task_demand-bound t k.cost k.deadline k.separation pos))
 
--- a server's supply from below: its rate, less two budgets
-server_low : (p b t : ℕ) → 1 ≤ b → b ≤ p → t * b ≤ p * server_supply p b t + 2 * p * b
+-- past the gap a server gives its budget for each whole period, and each slot of the rest past a second gap
+server_low_past : (p b q r g : ℕ) → b ≤ p → (g + (q * p + r)) * b ≤ p * (q * b + (r - g)) + 2 * g * b
+server_low_past p b q r g within =
+    let rest : (r - g) * b ≤ (r - g) * p = mul-le-mul_left (r - g) within in
+    let split : r * b ≤ (r - g + g) * b = mul-le-mul_right b (omega arith) in
+    omega (arith, rest, split)
+
+-- a server's supply from below: its rate, less what two gaps would have
+server_low : (p b t : ℕ) → 1 ≤ b → b ≤ p → t * b ≤ p * server_supply p b t + 2 * (p - b) * b
 unfolding server_supply
 server_low p b t some within =
     elim (dec_lt t (p - b)) [
       | yes h ↦
-          (let le : t ≤ 2 * p = omega arith in
+          (let le : t ≤ 2 * (p - b) = omega arith in
           rw (lt-ltb t (p - b) h) (omega (arith, mul-le-mul_right b le)))
       | no h ↦
           (let le : p - b ≤ t = omega arith in
           let u = t - (p - b) in
-          let up : u < u / p * p + p = lt-div-mul-add {a = u} {b = p} (omega arith) in
-          let w : t ≤ u / p * p + 2 * p = omega arith in
-          rw (le-ltb t (p - b) le) (omega (arith, mul-le-mul_right b w)))
+          let e : p - b + (u / p * p + u % p) ≡ t = omega (arith, mod-add-div' u p) in
+          rw (le-ltb t (p - b) le) (omega (arith, ap (λ n. n * b) e, server_low_past p b (u / p) (u % p) (p - b) within)))
     ]
 
 -- the guest's bound
@@ -139,6 +150,49 @@ tasks_confined p b ks some within ok spare near t =
     elim (dec_lt t (100 * (2 * b + sum_by cost_of ks))) [
       | yes h ↦ near t h
       | no h ↦
+          (let gaps : 2 * (p - b) ≤ 2 * p = omega arith in
           guest_arith t (sum_by task_share ks) (1000000 * b / p) p b (sum_by cost_of ks) (sum_by (task_demand t) ks) (server_supply p b t)
-          (omega arith) (div-mul-le_self (1000000 * b) p) spare (tasks_share t ks ok) (server_low p b t some within) (omega (arith, h))
+          (omega arith) (div-mul-le_self (1000000 * b) p) spare (tasks_share t ks ok) (omega (arith, server_low p b t some within, mul-le-mul_right b gaps)) (omega (arith, h)))
+    ]
+
+-- a task's demand in millionths, if it is due within m: its rate in m slots more
+task_demand-due : (t m : ℕ) (k : Task) → TaskOk k → DueWithin m k → 1000000 * task_demand t k ≤ (t + m) * task_share k
+task_demand-due t m k ok due =
+    elim (dec_lt t k.deadline) [
+      | yes h ↦ rw (lt-ltb t k.deadline h) (omega arith)
+      | no h ↦
+          (let le : k.deadline ≤ t = omega arith in
+          let q = (t - k.deadline) / k.separation in
+          let low : (q + 1) * k.separation ≤ t + m = omega (arith, div-mul-le_self (t - k.deadline) k.separation, due) in
+          rw (le-ltb t k.deadline le)
+          (omega (arith, mul-le-mul_left (q + 1) (share_up-bound k.cost k.separation (omega (arith, ok))), mul-le-mul_right (task_share k) low)))
+    ]
+
+-- the demand of such tasks together in millionths
+tasks_share-due : (t m : ℕ) (ks : List Task) → All TaskOk ks → All (DueWithin m) ks → 1000000 * sum_by (task_demand t) ks ≤ (t + m) * sum_by task_share ks
+tasks_share-due t m [] ok due = omega arith
+tasks_share-due t m (k ∷ ks) ok due =
+    rw (sum_by-cons (task_demand t) k ks, sum_by-cons task_share k ks)
+    (omega (arith, tasks_share-due t m ks (All-tail TaskOk k ks ok) (All-tail (DueWithin m) k ks due), task_demand-due t m k (All-head TaskOk k ks ok) (All-head (DueWithin m) k ks due)))
+
+-- the guest's bound by the deadlines of its tasks
+guest_arith-due : (t A β p b m D Z : ℕ) → 0 < p → b ≤ p → β * p ≤ 1000000 * b → A + 10000 ≤ β → 1000000 * D ≤ (t + m) * A → t * b ≤ p * Z + 2 * (p - b) * b
+    → 100 * (m + 2 * (p - b)) ≤ t → D ≤ Z
+guest_arith-due t A β p b m D Z pos within floor spare demand sup far =
+    let x = mul-le-mul_left p demand in
+    let y = mul-le-mul_left (p * (t + m)) spare in
+    let z = mul-le-mul_left (t + m) floor in
+    let v = mul-le-mul_left (m + 2 * (p - b)) within in
+    let w = mul-le-mul_right p far in
+    le_of_mul-le-mul_left {k = p} (omega (arith, x, y, z, v, w, sup)) pos
+
+-- the search below that bound settles every t
+pub tasks_confined_by_deadlines : TasksConfinedByDeadlines
+unfolding TasksConfinedByDeadlines TasksHaveSpare TasksServed task_shares tasks_demand
+tasks_confined_by_deadlines p b m ks some within ok due spare near t =
+    elim (dec_lt t (100 * (m + 2 * (p - b)))) [
+      | yes h ↦ near t h
+      | no h ↦
+          guest_arith-due t (sum_by task_share ks) (1000000 * b / p) p b m (sum_by (task_demand t) ks) (server_supply p b t)
+          (omega arith) within (div-mul-le_self (1000000 * b) p) spare (tasks_share-due t m ks ok due) (server_low p b t some within) (omega (arith, h))
     ]
