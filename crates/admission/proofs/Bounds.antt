@@ -12,7 +12,7 @@ use Rattle.admission.specs.Supply.{free_bytes, supply}
 use Rattle.admission.specs.Demand.{share_up, server_demand, servers_demand, task_demand, tasks_demand, server_supply, server_share, server_shares, task_share, task_shares, LinkHasSpare, LinkServedAt, LinkServed, TasksHaveSpare, TasksServed}
 use Rattle.admission.specs.Limits.{TaskOk}
 use Rattle.admission.specs.Streams.{server_task, StreamOk, StreamsOk, stream_shares}
-use Rattle.admission.specs.Laws.{LinkConfined, TasksConfined, DueWithin, TasksConfinedByDeadlines}
+use Rattle.admission.specs.Laws.{LinkConfined, TasksConfined, PauseAtMost, TasksConfinedByPauses}
 use Rattle.admission.proofs.Windows.{supply_law}
 use Rattle.admission.proofs.Flat.{servers_streams}
 
@@ -61,7 +61,7 @@ link_arith t h F A f q r D S split low floor spare demand sup far =
     let k : suc h * D ≤ suc h * (q * F) = omega (arith, a, b, d, m, far) in
     le_trans (le_of_mul-le-mul_left {k = suc h} k (omega arith)) sup
 
--- the same with H above 0
+-- the link's bound, for any H above 0
 link_arith_at : (t H F A D S : ℕ) → 0 < H → A + 10000 ≤ 1000000 * F / H → 1000000 * D ≤ t * A → t / H * F ≤ S
     → 100 * (F * (H - 1)) ≤ t * H → D ≤ S
 link_arith_at t zero F A D S pos spare demand sup far = absurd (omega arith)
@@ -83,7 +83,7 @@ link_confined-streams table gs pos ok spare near t =
           pos spare (servers_share t gs ok) (omega (arith, supply_law table t)) (omega (arith, h))
     ]
 
--- the law of the link, of servers that keep their limits
+-- the search below the bound settles every t, for servers that keep their limits
 pub link_confined : LinkConfined
 unfolding LinkConfined
 link_confined table gs pos ok spare near = link_confined-streams table gs pos (servers_streams gs ok) spare near
@@ -155,30 +155,30 @@ tasks_confined p b ks some within ok spare near t =
           (omega arith) (div-mul-le_self (1000000 * b) p) spare (tasks_share t ks ok) (omega (arith, server_low p b t some within, mul-le-mul_right b gaps)) (omega (arith, h)))
     ]
 
--- a task's demand in millionths, if it is due within m: its rate in m slots more
-task_demand-due : (t m : ℕ) (k : Task) → TaskOk k → DueWithin m k → 1000000 * task_demand t k ≤ (t + m) * task_share k
-task_demand-due t m k ok due =
+-- a task's demand in millionths, if its pause is at most m: its rate in m slots more
+task_demand-paused : (t m : ℕ) (k : Task) → TaskOk k → PauseAtMost m k → 1000000 * task_demand t k ≤ (t + m) * task_share k
+task_demand-paused t m k ok pause =
     elim (dec_lt t k.deadline) [
       | yes h ↦ rw (lt-ltb t k.deadline h) (omega arith)
       | no h ↦
           (let le : k.deadline ≤ t = omega arith in
           let q = (t - k.deadline) / k.separation in
-          let low : (q + 1) * k.separation ≤ t + m = omega (arith, div-mul-le_self (t - k.deadline) k.separation, due) in
+          let low : (q + 1) * k.separation ≤ t + m = omega (arith, div-mul-le_self (t - k.deadline) k.separation, pause) in
           rw (le-ltb t k.deadline le)
           (omega (arith, mul-le-mul_left (q + 1) (share_up-bound k.cost k.separation (omega (arith, ok))), mul-le-mul_right (task_share k) low)))
     ]
 
--- the demand of such tasks together in millionths
-tasks_share-due : (t m : ℕ) (ks : List Task) → All TaskOk ks → All (DueWithin m) ks → 1000000 * sum_by (task_demand t) ks ≤ (t + m) * sum_by task_share ks
-tasks_share-due t m [] ok due = omega arith
-tasks_share-due t m (k ∷ ks) ok due =
+-- the demand of tasks with such pauses together in millionths
+tasks_share-paused : (t m : ℕ) (ks : List Task) → All TaskOk ks → All (PauseAtMost m) ks → 1000000 * sum_by (task_demand t) ks ≤ (t + m) * sum_by task_share ks
+tasks_share-paused t m [] ok pauses = omega arith
+tasks_share-paused t m (k ∷ ks) ok pauses =
     rw (sum_by-cons (task_demand t) k ks, sum_by-cons task_share k ks)
-    (omega (arith, tasks_share-due t m ks (All-tail TaskOk k ks ok) (All-tail (DueWithin m) k ks due), task_demand-due t m k (All-head TaskOk k ks ok) (All-head (DueWithin m) k ks due)))
+    (omega (arith, tasks_share-paused t m ks (All-tail TaskOk k ks ok) (All-tail (PauseAtMost m) k ks pauses), task_demand-paused t m k (All-head TaskOk k ks ok) (All-head (PauseAtMost m) k ks pauses)))
 
--- the guest's bound by the deadlines of its tasks
-guest_arith-due : (t A β p b m D Z : ℕ) → 0 < p → b ≤ p → β * p ≤ 1000000 * b → A + 10000 ≤ β → 1000000 * D ≤ (t + m) * A → t * b ≤ p * Z + 2 * (p - b) * b
+-- the guest's bound by the pauses of its tasks
+guest_arith-paused : (t A β p b m D Z : ℕ) → 0 < p → b ≤ p → β * p ≤ 1000000 * b → A + 10000 ≤ β → 1000000 * D ≤ (t + m) * A → t * b ≤ p * Z + 2 * (p - b) * b
     → 100 * (m + 2 * (p - b)) ≤ t → D ≤ Z
-guest_arith-due t A β p b m D Z pos within floor spare demand sup far =
+guest_arith-paused t A β p b m D Z pos within floor spare demand sup far =
     let x = mul-le-mul_left p demand in
     let y = mul-le-mul_left (p * (t + m)) spare in
     let z = mul-le-mul_left (t + m) floor in
@@ -187,12 +187,12 @@ guest_arith-due t A β p b m D Z pos within floor spare demand sup far =
     le_of_mul-le-mul_left {k = p} (omega (arith, x, y, z, v, w, sup)) pos
 
 -- the search below that bound settles every t
-pub tasks_confined_by_deadlines : TasksConfinedByDeadlines
-unfolding TasksConfinedByDeadlines TasksHaveSpare TasksServed task_shares tasks_demand
-tasks_confined_by_deadlines p b m ks some within ok due spare near t =
+pub tasks_confined_by_pauses : TasksConfinedByPauses
+unfolding TasksConfinedByPauses TasksHaveSpare TasksServed task_shares tasks_demand
+tasks_confined_by_pauses p b m ks some within ok pauses spare near t =
     elim (dec_lt t (100 * (m + 2 * (p - b)))) [
       | yes h ↦ near t h
       | no h ↦
-          guest_arith-due t (sum_by task_share ks) (1000000 * b / p) p b m (sum_by (task_demand t) ks) (server_supply p b t)
-          (omega arith) within (div-mul-le_self (1000000 * b) p) spare (tasks_share-due t m ks ok due) (server_low p b t some within) (omega (arith, h))
+          guest_arith-paused t (sum_by task_share ks) (1000000 * b / p) p b m (sum_by (task_demand t) ks) (server_supply p b t)
+          (omega arith) within (div-mul-le_self (1000000 * b) p) spare (tasks_share-paused t m ks ok pauses) (server_low p b t some within) (omega (arith, h))
     ]

@@ -12,14 +12,14 @@ use Rattle.admission.specs.Limits.{ServerOk}
 use Rattle.admission.specs.Grows.{div-flat}
 use Rattle.admission.specs.Streams.{server_task, StreamOk, StreamsOk, stream_demand, streams_demand, TaskFlat}
 
--- a task's demand is at most t
+-- from its deadline on a task's demand is at most t
 pub task_small_at : (t : ℕ) (k : Task) → StreamOk k → k.deadline ≤ t → ((t - k.deadline) / k.separation + 1) * k.cost ≤ t
 task_small_at t k ok le =
     let q = (t - k.deadline) / k.separation in
     let c : k.cost ≤ k.separation = omega (arith, ok) in
     omega (arith, mul-le-mul_left q c, div-mul-le_self (t - k.deadline) k.separation, ok.due)
 
--- so it is below its deadline, where it is nothing
+-- a task's demand is at most t, whatever t is
 pub task_small : (t : ℕ) (k : Task) → StreamOk k → task_demand t k ≤ t
 task_small t k ok =
     elim (dec_lt t k.deadline) [
@@ -50,11 +50,11 @@ streams_demand-flat task t u s (x ∷ xs) flat from to =
     rw (sum_by-cons (stream_demand task s) x xs, sum_by-cons (stream_demand task t) x xs)
     (omega (arith, All-head (λ y. TaskFlat t u (task y)) x xs flat s from to, streams_demand-flat task t u s xs (All-tail (λ y. TaskFlat t u (task y)) x xs flat) from to))
 
--- servers are streams
+-- a server that keeps its limits is a stream that does
 pub server_stream : (g : Guest) → ServerOk g → StreamOk (server_task g)
 server_stream g ok = record { some = ok.some; due = ok.within; apart = omega arith; small = omega (arith, ok.small) }
 
--- and so are all servers that keep their limits
+-- servers that keep their limits are streams that do
 pub servers_streams : (gs : List Guest) → All ServerOk gs → StreamsOk server_task gs
 servers_streams gs ok = All-weaker ServerOk (λ g. StreamOk (server_task g)) server_stream gs ok
 
@@ -72,7 +72,7 @@ server_demand-as_task t p b pos =
           rw (le-ltb t p le, q) refl)
     ]
 
--- and so have all servers together
+-- servers as tasks have the servers' total demand
 pub streams_demand-servers : (gs : List Guest) (t : ℕ) → StreamsOk server_task gs → streams_demand server_task gs t ≡ servers_demand gs t
 unfolding servers_demand
 streams_demand-servers [] t ok = refl

@@ -18,7 +18,7 @@ pub record Part (gs : List Guest) (ks : List Task) (i : ℕ) : Type 0 where
   pub next : task_start gs i + task_count_of (guest_at gs i) ≡ task_start gs (i + 1)
   pub within : task_start gs i + task_count_of (guest_at gs i) ≤ length ks
 
--- it is known of each guest
+-- so much is known of each guest whose list of tasks agrees
 pub part : (gs : List Guest) (ks : List Task) (i : ℕ) → Agreeing gs ks → i < length gs → Part gs ks i
 unfolding task_start
 part gs ks i agreeing lt =
@@ -61,17 +61,17 @@ pub tasks_of-at : (gs : List Guest) (ks : List Task) (i j : ℕ) → j < task_co
 unfolding tasks_of
 tasks_of-at gs ks i j lt = part-at ks (task_start gs i) (task_count_of (guest_at gs i)) j no_task lt
 
--- there are as many as the guest counts
+-- a guest has as many tasks as it counts
 pub tasks_of-length : (gs : List Guest) (ks : List Task) (i : ℕ) → Part gs ks i → length (tasks_of gs ks i) ≡ task_count_of (guest_at gs i)
 unfolding tasks_of
 tasks_of-length gs ks i p = simp (length-take, length-drop) (omega (arith, p.within))
 
--- they are at most 8
+-- a guest that counts at most 8 tasks has no more
 pub tasks_of-few : (gs : List Guest) (ks : List Task) (i : ℕ) → task_count_of (guest_at gs i) ≤ 8 → length (tasks_of gs ks i) ≤ 8
 unfolding tasks_of
 tasks_of-few gs ks i few = simp length-take (omega (arith, few))
 
--- each keeps its limits where all tasks do
+-- the tasks of a guest keep their limits where all tasks do
 pub tasks_of-ok : (gs : List Guest) (ks : List Task) (i : ℕ) → All TaskOk ks → All TaskOk (tasks_of gs ks i)
 unfolding tasks_of
 tasks_of-ok gs ks i ok = All-take TaskOk (task_count_of (guest_at gs i)) (drop (task_start gs i) ks) (All-drop TaskOk (task_start gs i) ks ok)
@@ -102,7 +102,7 @@ pub task_start_grows : (gs : List Guest) → Grows (task_start gs)
 unfolding task_start
 task_start_grows gs a b le = prefix_grows task_count_of gs a b le
 
--- nor do those of operations
+-- the starts of operations do not fall
 pub operation_start_grows : (gs : List Guest) (ks : List Task) → Grows (operation_start gs ks)
 unfolding operation_start
 operation_start_grows gs ks a b le = prefix_grows cost_of ks (task_start gs a) (task_start gs b) (task_start_grows gs a b le)

@@ -49,11 +49,11 @@ least_attained xs t (suc n) =
       | no h ↦ (suc n, omega arith, omega arith)
     ]
 
--- the table repeats
+-- a slot a round later is as free
 pub slot_repeats : (xs : List ℕ) (s : ℕ) → slot_free xs (s + length xs) ≡ slot_free xs s
 slot_repeats xs s = let e : (s + length xs) % length xs ≡ s % length xs = add-mod_right s (length xs) in rw e refl
 
--- and so do its windows
+-- a window a round later has as many free slots
 pub window_repeats : (xs : List ℕ) (s t : ℕ) → window_free xs (s + length xs) t ≡ window_free xs s t
 unfolding window_free
 window_repeats xs s zero = refl
@@ -87,7 +87,7 @@ window_front xs (suc i) h =
     let e : i + 1 ≡ suc i = omega arith in
     omega (arith, window_front xs i (omega arith), b, sum_by_more (λ x. cond (free? x) 1 0) xs i 0 lt, ap (λ n. count_by free? (take n xs)) e)
 
--- that many are the free bytes of the table
+-- any window of H slots has F free ones
 pub window_whole : (xs : List ℕ) (s : ℕ) → window_free xs s (length xs) ≡ free_bytes xs
 window_whole xs s =
     window_whole_from xs s ∙ window_front xs (length xs) (le_refl _) ∙ ap free_bytes (take_all (length xs) xs (le_refl _))
@@ -96,18 +96,18 @@ window_whole xs s =
 pub window_period : (xs : List ℕ) (s t : ℕ) → window_free xs s (t + length xs) ≡ window_free xs s t + free_bytes xs
 window_period xs s t = omega (arith, window_add xs s t (length xs), window_whole xs (s + t))
 
--- the same of the least of several windows
+-- of windows that are a round longer the least has F more
 pub least_period : (xs : List ℕ) (t n : ℕ) → least_to xs (t + length xs) n ≡ least_to xs t n + free_bytes xs
 unfolding least_to
 least_period xs t zero = window_period xs 0 t
 least_period xs t (suc n) = omega (arith, least_period xs t n, window_period xs (suc n) t)
 
--- and so of S
+-- S of a round more is F more
 pub supply_period : (xs : List ℕ) (t : ℕ) → supply xs (t + length xs) ≡ supply xs t + free_bytes xs
 unfolding supply
 supply_period xs t = least_period xs t (length xs - 1)
 
--- and for each round of the table
+-- S of q rounds more is q times F more
 pub supply_periods : (xs : List ℕ) (t q : ℕ) → supply xs (t + q * length xs) ≡ supply xs t + q * free_bytes xs
 supply_periods xs t zero = let e : t + 0 * length xs ≡ t = omega arith in omega (arith, ap (supply xs) e)
 supply_periods xs t (suc q) =
@@ -118,7 +118,7 @@ supply_periods xs t (suc q) =
 pub supply_law : (xs : List ℕ) (t : ℕ) → supply xs t ≡ supply xs (t % length xs) + t / length xs * free_bytes xs
 supply_law xs t = ap (supply xs) (sym (mod-add-div' t (length xs))) ∙ supply_periods xs (t % length xs) (t / length xs)
 
--- windows repeat after any number of rounds
+-- a window q rounds later has as many free slots
 pub window_repeats_all : (xs : List ℕ) (s q t : ℕ) → window_free xs (s + q * length xs) t ≡ window_free xs s t
 window_repeats_all xs s zero t = let e : s + 0 * length xs ≡ s = omega arith in ap (λ k. window_free xs k t) e
 window_repeats_all xs s (suc q) t =
@@ -142,12 +142,12 @@ pub supply_small : (xs : List ℕ) (t : ℕ) → supply xs t ≤ t
 unfolding supply
 supply_small xs t = omega (arith, least_lower xs t (length xs - 1) 0 (omega arith), window_le xs 0 t)
 
--- S(t) is the least number, the law
+-- the law that S(t) is the least number
 pub supply_is_least : SupplyIsLeast
 unfolding SupplyIsLeast
 supply_is_least table t pos = supply_least table t pos
 
--- S goes on by F for each round, the law
+-- the law that S goes on by F for each round
 pub supply_repeats : SupplyRepeats
 unfolding SupplyRepeats
 supply_repeats table t le = supply_law table t

@@ -33,13 +33,13 @@ unfoldable pub TasksConfined : Type 0
 TasksConfined = (period budget : ℕ) (ks : List Task) → 1 ≤ budget → budget ≤ period → All TaskOk ks → TasksHaveSpare period budget ks
     → ((t : ℕ) → t < 100 * (2 * budget + sum_by cost_of ks) → TasksServedAt period budget ks t) → TasksServed period budget ks
 
--- a task is due at most m slots before its separation has passed
-abbrev pub DueWithin : ℕ → Task → Type 0
-DueWithin m k = k.separation ≤ k.deadline + m
+-- from the deadline of a job to the earliest start of the next job of its task there are at most m slots
+abbrev pub PauseAtMost : ℕ → Task → Type 0
+PauseAtMost m k = k.separation ≤ k.deadline + m
 
--- with the spare, tasks due within m that are served in each t < 100 × (m + 2 × (period - budget)) are always served
-unfoldable pub TasksConfinedByDeadlines : Type 0
-TasksConfinedByDeadlines = (period budget m : ℕ) (ks : List Task) → 1 ≤ budget → budget ≤ period → All TaskOk ks → All (DueWithin m) ks → TasksHaveSpare period budget ks
+-- with the spare, tasks with pauses of at most m that are served in each t < 100 × (m + 2 × (period - budget)) are always served
+unfoldable pub TasksConfinedByPauses : Type 0
+TasksConfinedByPauses = (period budget m : ℕ) (ks : List Task) → 1 ≤ budget → budget ≤ period → All TaskOk ks → All (PauseAtMost m) ks → TasksHaveSpare period budget ks
     → ((t : ℕ) → t < 100 * (m + 2 * (period - budget)) → TasksServedAt period budget ks t) → TasksServed period budget ks
 
 -- of a rule and its refusals: where the rule holds there is none, and there is never more than one

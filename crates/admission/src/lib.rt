@@ -4,7 +4,7 @@
 ghost use Rattle.decline.specs.Refusals.{by_numbers};
 ghost use Rattle.admission.specs.Plan.{plan_of};
 ghost use Rattle.admission.specs.Verdict.{IsVerdict};
-ghost use Rattle.admission.specs.Laws.{SupplyIsLeast, SupplyRepeats, LinkConfined, TasksConfined, TasksConfinedByDeadlines, OneVerdict};
+ghost use Rattle.admission.specs.Laws.{SupplyIsLeast, SupplyRepeats, LinkConfined, TasksConfined, TasksConfinedByPauses, OneVerdict};
 
 mod limits;
 mod parties;
@@ -33,7 +33,7 @@ fn admission_laws()
     ensures repeats { SupplyRepeats }
     ensures link { LinkConfined }
     ensures tasks { TasksConfined }
-    ensures deadlines { TasksConfinedByDeadlines }
+    ensures pauses { TasksConfinedByPauses }
 {}
 
 // The verdict on a setup for a device of so many registers: accepted, or the first rule that does not hold, at its first place.
@@ -44,7 +44,7 @@ pub fn judge(setup: &Setup<'_>, registers: u32) -> Result<(), Decline>
     ensures supply_repeats { SupplyRepeats }
     ensures link_confined { LinkConfined }
     ensures tasks_confined { TasksConfined }
-    ensures tasks_confined_by_deadlines { TasksConfinedByDeadlines }
+    ensures tasks_confined_by_pauses { TasksConfinedByPauses }
 {
     admission_laws();
     check_sizes(setup, registers)?;

@@ -17,7 +17,7 @@ and_left : (a b : Bool) → T (a && b) → T a
 and_left true b t = tt
 and_left false b t = t
 
--- and the second
+-- of two tests that both pass, the second passes
 and_right : (a b : Bool) → T (a && b) → T b
 and_right true b t = t
 and_right false b t = absurd t

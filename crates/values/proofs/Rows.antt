@@ -18,7 +18,7 @@ pub supplies_a : map (supply table_a) (range_with_len 0 10) ≡ 0 ∷ 0 ∷ 1 �
 unfolding supply least_to window_free
 supplies_a = refl
 
--- and its S(26)
+-- S(26) of the table of setup A
 pub supply_a_26 : supply table_a 26 ≡ 20
 unfolding supply least_to window_free
 supply_a_26 = refl
@@ -44,12 +44,12 @@ sizes_a d b = record {
   operations = refl;
 }
 
--- its table bytes
+-- the table of setup A keeps rule 2
 bytes_a : BytesOk table_a 1
 unfolding byte_ok?
 bytes_a = bytes_ok table_a 1 tt
 
--- its servers
+-- its servers keep rule 3, for each budget of guest 2
 servers_a : (b : ℕ) → 1 ≤ b → b ≤ 10 → All ServerOk (guests_a b)
 servers_a b some within =
     All-from_recursion ServerOk (guests_a b)
@@ -60,13 +60,13 @@ apart_a : (b k : ℕ) → k < 1 → Apart (guest_at (guests_a b) 1) (guest_at (g
 apart_a b zero h = inl (lit≤ tt)
 apart_a b (suc k) h = absurd (omega arith)
 
--- its windows
+-- its windows keep rule 4
 windows_a : (b : ℕ) → WindowsOk 64 (guests_a b)
 windows_a b zero lt = record { fits = record { some = lit≤ tt; within = lit≤ tt }; apart = λ k h. absurd (omega arith) }
 windows_a b (suc zero) lt = record { fits = record { some = lit≤ tt; within = lit≤ tt }; apart = apart_a b }
 windows_a b (suc (suc i)) lt = absurd (omega arith)
 
--- its tasks
+-- its tasks keep rule 5, for each deadline of guest 1
 tasks_a_ok : (d : ℕ) → 2 ≤ d → d ≤ 20 → All TaskOk (tasks_a d)
 tasks_a_ok d due apart =
     All-from_recursion TaskOk (tasks_a d) (
@@ -74,12 +74,12 @@ tasks_a_ok d due apart =
       (record { some = lit≤ tt; due = lit≤ tt; apart = lit≤ tt; small = lit≤ tt; cheap = lit≤ tt }, tt),
     )
 
--- its fixed operation
+-- its fixed operation keeps rule 6
 fixed_a : FixedsOk (Read 0 ∷ []) 64
 fixed_a zero lt = lit< tt
 fixed_a (suc i) lt = absurd (omega arith)
 
--- its guests' operations
+-- its guests' operations keep rule 6
 operations_a_inside : (d b : ℕ) → OperationsOk (guests_a b) (tasks_a d) operations_a
 unfolding operation_start task_start
 operations_a_inside d b zero zero lt share = record { from = lit≤ tt; to = lit< tt }
@@ -93,7 +93,7 @@ operations_a_inside d b (suc zero) (suc (suc (suc (suc zero)))) lt share = recor
 operations_a_inside d b (suc zero) (suc (suc (suc (suc (suc q))))) lt share = absurd (omega arith)
 operations_a_inside d b (suc (suc i)) q lt share = absurd (omega arith)
 
--- so rules 1 to 6 hold
+-- setup A is well-formed, for each such deadline and budget
 form_a : (d b : ℕ) → 2 ≤ d → d ≤ 20 → 1 ≤ b → b ≤ 10 → WellFormed (setup_a d b) 64
 form_a d b due apart some within = record {
   sizes = sizes_a d b;
@@ -105,7 +105,7 @@ form_a d b due apart some within = record {
   operations = operations_a_inside d b;
 }
 
--- its servers leave the spare
+-- the servers of setup A leave the spare
 link_spare_a : LinkHasSpare table_a (guests_a 3)
 unfolding LinkHasSpare server_shares
 link_spare_a = lit≤ tt
@@ -115,7 +115,7 @@ link_served_a : LinkServed table_a (guests_a 3)
 unfolding link_served? quick_supply servers_demand supply least_to window_free
 link_served_a = link_served table_a (guests_a 3) 720 (lit< tt) (servers_a 3 (lit≤ tt) (lit≤ tt)) link_spare_a (lit≤ tt) tt
 
--- both guests have the spare
+-- both guests of setup A have the spare
 guest_spares_a : (d : ℕ) → GuestsHaveSpare (guests_a 3) (tasks_a d)
 unfolding tasks_of task_start TasksHaveSpare task_shares
 guest_spares_a d zero lt = lit≤ tt
@@ -136,7 +136,7 @@ guests_served_a d due apart test (suc zero) lt =
     tasks_served 10 3 rest (lit≤ tt) (lit≤ tt) (All-tail TaskOk first rest (tasks_a_ok d due apart)) (lit≤ tt) tt
 guests_served_a d due apart test (suc (suc i)) lt = absurd (omega arith)
 
--- so it is accepted, if guest 1 is served
+-- setup A is accepted for each deadline at which guest 1 passes the test
 accepted_a : (d : ℕ) → 2 ≤ d → d ≤ 20 → T (below (tasks_served? 5 2 (record { separation = 20; cost = 2; deadline = d } ∷ [])) 600) → Accepted (setup_a d 3) 64
 accepted_a d due apart test = record {
   form = form_a d 3 due apart (lit≤ tt) (lit≤ tt);
@@ -153,7 +153,7 @@ pub accepted_a_10 : Accepted (setup_a 10 3) 64
 unfolding tasks_served? tasks_demand server_supply
 accepted_a_10 = accepted_a 10 (lit≤ tt) (lit≤ tt) tt
 
--- with deadline 8 for guest 1 too
+-- setup A with deadline 8 is accepted
 pub accepted_a_8 : Accepted (setup_a 8 3) 64
 unfolding tasks_served? tasks_demand server_supply
 accepted_a_8 = accepted_a 8 (lit≤ tt) (lit≤ tt) tt
@@ -171,18 +171,18 @@ short_a_7 = record {
   before = λ k h. leb→le _ _ (below_at (tasks_served? 5 2 (record { separation = 20; cost = 2; deadline = 7 } ∷ [])) 7 tt k h);
 }
 
--- with deadline 7 it is declined by number 10
+-- setup A with deadline 7 is declined by number 10
 pub declined_a_7 : Declined (setup_a 7 3) 64 (record { number = 10; guest = 1; place = 7 })
 declined_a_7 =
     declined_later (setup_a 7 3) 64 _ (form_a 7 3 (lit≤ tt) (lit≤ tt) (lit≤ tt) (lit≤ tt))
     (inr (link_spare_a, inr (link_served_a, inr (guest_spares_a 7, (0, 7, refl, lit< tt, (λ k h. absurd (omega arith)), short_a_7)))))
 
--- with budget 4 for guest 2 the link has no spare
+-- with budget 4 for guest 2 the servers leave no spare
 no_link_spare_a : LinkHasSpare table_a (guests_a 4) → ⊥
 unfolding LinkHasSpare server_shares
 no_link_spare_a h = omega (arith, h)
 
--- so it is declined by number 7
+-- setup A with that budget is declined by number 7
 pub declined_a_budget_4 : Declined (setup_a 10 4) 64 (record { number = 7; guest = 0; place = 0 })
 declined_a_budget_4 =
     declined_later (setup_a 10 4) 64 _ (form_a 10 4 (lit≤ tt) (lit≤ tt) (lit≤ tt) (lit≤ tt)) (inl (refl, no_link_spare_a))
@@ -192,13 +192,13 @@ windows_one : (p b : ℕ) → WindowsOk 64 (guest p b 0 8 0 ∷ [])
 windows_one p b zero lt = record { fits = record { some = lit≤ tt; within = lit≤ tt }; apart = λ k h. absurd (omega arith) }
 windows_one p b (suc i) lt = absurd (omega arith)
 
--- it has no operations
+-- a setup of one guest without tasks has no operations
 operations_one : (p b : ℕ) → OperationsOk (guest p b 0 8 0 ∷ []) [] []
 unfolding operation_start task_start
 operations_one p b zero q lt share = absurd (omega arith)
 operations_one p b (suc i) q lt share = absurd (omega arith)
 
--- it is well-formed with each table of at most 1,024 bytes of 0 and 1
+-- that setup is well-formed with each table of at most 1,024 bytes of 0 and 1
 form_one : (table : List ℕ) (p b : ℕ) → (1 ≤ length table) × (length table ≤ 1024) → BytesOk table 1 → 1 ≤ b → b ≤ p → p ≤ 1024 → WellFormed (one_guest table p b) 64
 form_one table p b size bytes some within small = record {
   sizes = record {
@@ -218,13 +218,13 @@ form_one table p b size bytes some within small = record {
   operations = operations_one p b;
 }
 
--- it has nothing to be served
+-- a guest without tasks is always served
 guest_served_one : (p b : ℕ) → GuestsServed (guest p b 0 8 0 ∷ []) []
 unfolding tasks_of task_start TasksServed tasks_demand
 guest_served_one p b zero lt t = zero-le
 guest_served_one p b (suc i) lt t = absurd (omega arith)
 
--- the table of two fixed slots
+-- the table of two fixed slots keeps rule 2
 bytes_two : BytesOk two_fixed 1
 unfolding byte_ok?
 bytes_two = bytes_ok two_fixed 1 tt
@@ -244,18 +244,18 @@ short_two = record { broken = λ le. omega (arith, le); before = before }
     before (suc zero) h = lit≤ tt
     before (suc (suc k)) h = absurd (omega arith)
 
--- so it is declined by number 8
+-- that guest on that table is declined by number 8
 pub declined_two_fixed : Declined (one_guest two_fixed 2 1) 64 (record { number = 8; guest = 0; place = 2 })
 declined_two_fixed =
     declined_later (one_guest two_fixed 2 1) 64 _ (form_one two_fixed 2 1 (lit≤ tt, lit≤ tt) bytes_two (lit≤ tt) (lit≤ tt) (lit≤ tt))
     (inr (link_spare_two, inl (2, refl, short_two)))
 
--- the byte of the table of one free slot
+-- the table of one free slot keeps rule 2
 bytes_free : BytesOk (0 ∷ []) 1
 bytes_free zero lt = lit≤ tt
 bytes_free (suc i) lt = absurd (omega arith)
 
--- its one byte is free, so a server with the spare is always served
+-- on that table a server that leaves the spare is always served
 link_served_free : (p b : ℕ) → 1 ≤ b → b ≤ p → p ≤ 1024 → LinkHasSpare (0 ∷ []) (guest p b 0 8 0 ∷ []) → LinkServed (0 ∷ []) (guest p b 0 8 0 ∷ [])
 link_served_free p b some within small spare =
     link_served (0 ∷ []) (guest p b 0 8 0 ∷ []) 0 (lit< tt) (All-from_recursion ServerOk (guest p b 0 8 0 ∷ []) (record { some = some; within = within; small = small }, tt)) spare (lit≤ tt) tt
@@ -265,23 +265,23 @@ link_spare_100 : LinkHasSpare (0 ∷ []) (guest 100 1 0 8 0 ∷ [])
 unfolding LinkHasSpare server_shares
 link_spare_100 = lit≤ tt
 
--- and so does one in period 101
+-- a guest of budget 1 in period 101 leaves the link the spare
 link_spare_101 : LinkHasSpare (0 ∷ []) (guest 101 1 0 8 0 ∷ [])
 unfolding LinkHasSpare server_shares
 link_spare_101 = lit≤ tt
 
--- in period 100 it has the spare itself
+-- a guest of budget 1 in period 100 has the spare
 guest_spare_100 : GuestsHaveSpare (guest 100 1 0 8 0 ∷ []) []
 unfolding tasks_of task_start TasksHaveSpare task_shares
 guest_spare_100 zero lt = lit≤ tt
 guest_spare_100 (suc i) lt = absurd (omega arith)
 
--- in period 101 it has not
+-- a guest of budget 1 in period 101 has not the spare
 no_guest_spare_101 : First (GuestHasSpare (guest 101 1 0 8 0 ∷ []) []) 0
 unfolding tasks_of task_start TasksHaveSpare task_shares
 no_guest_spare_101 = record { broken = λ h. omega (arith, h); before = λ k h. absurd (omega arith) }
 
--- so the one is accepted
+-- the guest of period 100 is accepted
 pub accepted_100 : Accepted (one_guest (0 ∷ []) 100 1) 64
 accepted_100 = record {
   form = form_one (0 ∷ []) 100 1 (lit≤ tt, lit≤ tt) bytes_free (lit≤ tt) (lit≤ tt) (lit≤ tt);
@@ -293,7 +293,7 @@ accepted_100 = record {
   };
 }
 
--- and the other declined by number 9
+-- the guest of period 101 is declined by number 9
 pub declined_101 : Declined (one_guest (0 ∷ []) 101 1) 64 (record { number = 9; guest = 1; place = 0 })
 declined_101 =
     declined_later (one_guest (0 ∷ []) 101 1) 64 _ (form_one (0 ∷ []) 101 1 (lit≤ tt, lit≤ tt) bytes_free (lit≤ tt) (lit≤ tt) (lit≤ tt))

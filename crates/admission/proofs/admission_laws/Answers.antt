@@ -1,5 +1,5 @@
 use Rattle.admission.proofs.Windows.{supply_is_least, supply_repeats}
-use Rattle.admission.proofs.Bounds.{link_confined, tasks_confined, tasks_confined_by_deadlines}
+use Rattle.admission.proofs.Bounds.{link_confined, tasks_confined, tasks_confined_by_pauses}
 use Rattle.admission.proofs.Unique.{one_verdict}
 use Rattle.admission.proofs.admission_laws.Goals as goal
 
@@ -10,5 +10,5 @@ returns c = record {
   repeats = supply_repeats;
   link = link_confined;
   tasks = tasks_confined;
-  deadlines = tasks_confined_by_deadlines;
+  pauses = tasks_confined_by_pauses;
 }
