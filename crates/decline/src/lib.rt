@@ -76,6 +76,8 @@ pub enum Decline {
     // The tasks of a guest, counted from 1, may need more slots than its server supplies; the window is the least number of successive
     // slots where they may.
     GuestDemand { guest: u32, window: u64 },
+    // A list has no such position, counted from 0.
+    ListPosition { position: u64 },
     // A journal block is not of 512 bytes, or there are not 1 to 31 entries to write, or not 31 places to read into.
     BlockSize,
     // The two sums at the end of a journal block are not those of its bytes.
@@ -109,6 +111,7 @@ impl Decline {
             Decline::LinkDemand { window } => (8, 0, window),
             Decline::GuestSpare { guest } => (9, guest, 0),
             Decline::GuestDemand { guest, window } => (10, guest, window),
+            Decline::ListPosition { position } => (13, 0, position),
             Decline::BlockSize => (19, 0, 0),
             Decline::BlockSums => (20, 0, 0),
             Decline::BlockRule { place } => (21, 0, place),
@@ -185,6 +188,9 @@ impl fmt::Display for Sentence {
                 f,
                 "in {window} successive slots the tasks of guest {guest} may need more than its server supplies"
             ),
+            Decline::ListPosition { position } => {
+                write!(f, "the list has no position {position}")
+            }
             Decline::BlockSize => write!(
                 f,
                 "the block is not of 512 bytes, or the entries are not 1 to 31, or the places are not 31"

@@ -1,0 +1,6 @@
+pub mod Cap
+pub mod Meaning
+pub mod Pair
+pub mod Panel
+pub mod Text
+pub mod Wheel

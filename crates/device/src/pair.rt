@@ -1,0 +1,53 @@
+// A pair: a layer that puts the registers of two devices in a row.
+ghost use Rattle.std.specs.Prelude.{◌≡◌};
+ghost use Rattle.device.specs.Pair.{paired};
+
+use crate::{Device, Refused};
+
+// How many registers a number of 8 bits can name.
+const MOST_REGISTERS: u32 = 256;
+
+// Two devices as one: the registers of the first, then those of the second, as far as there are numbers for them.
+#[derive(Debug, Drop)]
+pub struct Pair<A, B> {
+    first: A,
+    second: B,
+}
+
+impl<A: Device, B: Device> Pair<A, B> {
+    // Both devices, the first one's registers first.
+    pub fn new(first: A, second: B) -> Pair<A, B>
+        ensures { ⟦<Pair<A, B> as Device>⟧.meaning result ≡ paired (A.meaning first) (B.meaning second) }
+    {
+        Pair { first, second }
+    }
+}
+
+impl<A: Device, B: Device> Device for Pair<A, B> {
+    ghost meaning = { λ p. paired (A.meaning p.first) (B.meaning p.second) };
+
+    #[tactic(auto, using(crate::proofs::Pairs::counts_both))]
+    fn register_count(&mut self) -> u32 {
+        let both = self
+            .first
+            .register_count()
+            .saturating_add(self.second.register_count());
+        both.min(MOST_REGISTERS)
+    }
+
+    #[tactic(auto, using(crate::proofs::Pairs::accepts_first, crate::proofs::Pairs::accepts_second, crate::proofs::Pairs::writes_first, crate::proofs::Pairs::writes_second))]
+    fn write(&mut self, register: u8, value: u16) -> Result<(), Refused> {
+        match u32::from(register).checked_sub(self.first.register_count()) {
+            None => self.first.write(register, value),
+            Some(place) => self.second.write(place as u8, value),
+        }
+    }
+
+    #[tactic(auto, using(crate::proofs::Pairs::reads_first, crate::proofs::Pairs::reads_second))]
+    fn read(&mut self, register: u8) -> Result<u16, Refused> {
+        match u32::from(register).checked_sub(self.first.register_count()) {
+            None => self.first.read(register),
+            Some(place) => self.second.read(place as u8),
+        }
+    }
+}

@@ -1,0 +1,55 @@
+// The filter wheel.
+ghost use Rattle.std.specs.Prelude.{◌≡◌, ◌≤◌, ◌%◌, ◌/◌};
+ghost use Rattle.device.specs.Wheel.{wheel, wheel_at_start};
+
+use crate::{Device, Refused};
+
+// How many steps the motor turns from one filter to the next.
+const STEPS: u16 = 200;
+
+// A wheel of 12 filters with a shutter. Register 0 is the filter, 0 to 11, which is held as the steps of the motor. Register 1 is the shutter, 0 or 1.
+#[derive(Debug, Drop)]
+pub struct FilterWheel {
+    steps: u16,
+    shutter: u16,
+    ghost whole: { steps % 200 ≡ 0 },
+    ghost within: { steps ≤ 2200 },
+    ghost flag: { shutter ≤ 1 },
+}
+
+impl FilterWheel {
+    // A wheel at filter 0, with its shutter at 0.
+    pub fn new() -> FilterWheel
+        ensures { ⟦<FilterWheel as Device>⟧.meaning result ≡ wheel_at_start }
+    {
+        FilterWheel {
+            steps: 0,
+            shutter: 0,
+        }
+    }
+}
+
+impl Device for FilterWheel {
+    ghost meaning = { λ w. wheel (w.steps / 200) w.shutter };
+
+    fn register_count(&mut self) -> u32 {
+        2
+    }
+
+    fn write(&mut self, register: u8, value: u16) -> Result<(), Refused> {
+        match (register, value) {
+            (0, 0..=11) => self.steps = STEPS * value,
+            (1, 0..=1) => self.shutter = value,
+            _ => return Err(Refused),
+        }
+        Ok(())
+    }
+
+    fn read(&mut self, register: u8) -> Result<u16, Refused> {
+        match register {
+            0 => Ok(self.steps / STEPS),
+            1 => Ok(self.shutter),
+            _ => Err(Refused),
+        }
+    }
+}

@@ -1,0 +1,4 @@
+pub mod Change
+pub mod Earliest
+pub mod Loan
+pub mod Replace
