@@ -9,14 +9,17 @@ use Rattle.journal.specs.Entries.{entry_bytes}
 use Rattle.journal.specs.Sums.{sum_a, sum_b}
 use Rattle.journal.specs.Blocks.{entry_at, first_slot, header_bytes, body_bytes, sum_bytes, block_bytes, place_bytes}
 
+-- sum A of a list is below 65,536
 sum_a_small : (xs : List ℕ) → sum_a xs < 65536
 sum_a_small [] = omega arith
 sum_a_small (x ∷ xs) = omega arith
 
+-- sum B of a list is below 65,536
 sum_b_small : (xs : List ℕ) → sum_b xs < 65536
 sum_b_small [] = omega arith
 sum_b_small (x ∷ xs) = omega arith
 
+-- the joined bytes of entries are sixteen for each entry
 length_joined : (es : List Entry) → length (flat_map entry_bytes es) ≡ 16 * length es
 length_joined [] = refl
 length_joined (e ∷ es) = length-append (entry_bytes e) (flat_map entry_bytes es) ∙ omega (arith, length_joined es)
@@ -29,11 +32,13 @@ joined_step e es k rest =
     ap (λ (m : ℕ). take 16 (drop m (flat_map entry_bytes (e ∷ es) ++ rest))) n
     ∙ ap (take 16) (sym (drop-drop (16 * k) 16 (flat_map entry_bytes (e ∷ es) ++ rest)))
 
+-- whatever follows the joined bytes of entries, the sixteen from byte 16 × k on are those of entry k, if there is one
 joined_place : (es : List Entry) (k : ℕ) (rest : List ℕ) → k < length es → take 16 (drop (16 * k) (flat_map entry_bytes es ++ rest)) ≡ entry_bytes (entry_at es k)
 joined_place [] k rest h = absurd (omega arith)
 joined_place (e ∷ es) zero rest h = refl
 joined_place (e ∷ es) (suc k) rest h = joined_step e es k rest ∙ joined_place es k rest (omega arith)
 
+-- where zeros follow the joined bytes of entries, the sixteen from byte 16 × k on are zero if they lie within those zeros
 joined_zeros : (es : List Entry) (k m : ℕ) (rest : List ℕ) → length es ≤ k → 16 * (k - length es) + 16 ≤ m
     → take 16 (drop (16 * k) (flat_map entry_bytes es ++ (replicate m 0 ++ rest))) ≡ replicate 16 0
 joined_zeros [] k m rest h l =
@@ -47,6 +52,7 @@ joined_zeros (e ∷ es) zero m rest h l = absurd (omega arith)
 joined_zeros (e ∷ es) (suc k) m rest h l = joined_step e es k (replicate m 0 ++ rest) ∙ joined_zeros es k m rest (omega arith) (omega arith)
 
 module _ (number : ℕ) (es : List Entry) where
+  -- place k of a block is the sixteen bytes from byte 16 × k on of what follows its header: the entries, the zeros and the sums
   place_is : (k : ℕ)
       → place_bytes (block_bytes number es) k ≡ take 16 (drop (16 * k) (flat_map entry_bytes es ++ (replicate (496 - 16 * length es) 0 ++ sum_bytes (body_bytes number es))))
   place_is k =
@@ -61,12 +67,14 @@ module _ (number : ℕ) (es : List Entry) where
   pub place_unused : (k : ℕ) → length es ≤ k → k < 31 → place_bytes (block_bytes number es) k ≡ replicate 16 0
   place_unused k h l = place_is k ∙ joined_zeros es k (496 - 16 * length es) (sum_bytes (body_bytes number es)) h (omega arith)
 
+  -- before its sums a block of at most 31 entries has 508 bytes
   pub length_body : length es ≤ 31 → length (body_bytes number es) ≡ 508
   length_body h =
       length-append (header_bytes number (length es) (first_slot es)) (flat_map entry_bytes es ++ replicate (496 - 16 * length es) 0)
       ∙ ap (λ (n : ℕ). 12 + n) (length-append (flat_map entry_bytes es) (replicate (496 - 16 * length es) 0))
       ∙ omega (arith, length_joined es, length-replicate {A = ℕ} (496 - 16 * length es) 0)
 
+  -- a block of at most 31 entries has 512 bytes
   pub length_block : length es ≤ 31 → length (block_bytes number es) ≡ 512
   length_block h = length-append (body_bytes number es) (sum_bytes (body_bytes number es)) ∙ omega (arith, length_body h)
 

@@ -20,6 +20,7 @@ module _ {X : Type 0} where
   only_if_ok true d r x h = (refl, h)
   only_if_ok false d r x h = let z : ◌≡◌ {A = ℕ} 0 1 = cc in absurd (omega arith)
 
+  -- if the answer is no refusal, no place failed, and it is the answer for that case
   pub unless_ok : (o : Option ℕ) (r : Result X DeclineNumbers) (x : X) → unless_at o r ≡ Ok x → (o ≡ None) × (r ≡ Ok x)
   unless_ok None r x h = (refl, h)
   unless_ok (Some e) r x h = let z : ◌≡◌ {A = ℕ} 0 1 = cc in absurd (omega arith)
@@ -35,12 +36,14 @@ pub record Good (block : List ℕ) : Type 0 where
   pub places : (k : ℕ) → k < 31 → place_lawful block k ≡ true
 
 module _ (block : List ℕ) where
+  -- a block of which every rule of the format holds is answered with what it states of itself
   pub good_answer : Good block → block_answer block ≡ Ok (heading_in block)
   unfolding block_answer
   good_answer g =
       only_if_true (sums_agree block) BlockSums _ g.sums ∙ only_if_true (header_lawful block) (BlockRule 0) _ g.header
       ∙ ap (λ (q : Option ℕ). unless_at q (Ok (heading_in block))) (failing_none (place_lawful block) 31 0 g.places)
 
+  -- of a block that is answered with a heading every rule of the format holds, and the heading is what it states of itself
   pub answer_good : (h : Heading) → block_answer block ≡ Ok h → Good block × (h ≡ heading_in block)
   unfolding block_answer
   answer_good h e =

@@ -17,6 +17,7 @@ digits4 a b c d ha hb hc hd =
     let e3 : n % 256 ≡ d = omega arith in
     cc
 
+-- two bytes come back from the number that they spell
 pub digits2 : (a b : ℕ) → a < 256 → b < 256 → bytes2 (a * 256 + b) ≡ a ∷ b ∷ []
 digits2 a b ha hb =
     let n : ℕ = a * 256 + b in
@@ -29,6 +30,7 @@ abbrev pub spelled : ℕ → ℕ → List ℕ → List ℕ
 spelled zero i bs = []
 spelled (suc n) i bs = get_or bs i 0 ∷ spelled n (i + 1) bs
 
+-- n numbers of a list from i on, one by one, are that part of the list, if it has so many
 pub spelled_is : (n i : ℕ) (bs : List ℕ) → i + n ≤ length bs → spelled n i bs ≡ take n (drop i bs)
 spelled_is zero i bs h = refl
 spelled_is (suc n) i bs h =

@@ -23,11 +23,13 @@ part_back bs n h =
     let e : field_bytes (fields_at bs) ≡ spelled 16 0 bs = cc in
     e ∙ spelled_is 16 0 bs (omega arith) ∙ take_all 16 bs (omega arith)
 
+-- an outcome comes back from its number
 outcome_back : (o : Outcome) → outcome_from (outcome_number o) ≡ o
 outcome_back Written = refl
 outcome_back Read = refl
 outcome_back Refused = refl
 
+-- an access comes back from its register, the number of its outcome, and its value
 access_back : (a : Access) → ◌≡◌ {A = Access} (record { register = a.register; outcome = outcome_from (outcome_number a.outcome); value = a.value }) a
 access_back a = ap (λ (o : Outcome). record { register = a.register; outcome = o; value = a.value }) (outcome_back a.outcome)
 
@@ -44,6 +46,7 @@ entry_back e = elim e.event as (λ x. entry_from (fields_of (record { slot = e.s
 pub slot_of : (e : Entry) → (fields_of e).slot ≡ e.slot
 slot_of e = ap (λ (x : Entry). x.slot) (entry_back e)
 
+-- a number from 1 to 3 comes back from the outcome that has it
 number_back : (n : ℕ) → 1 ≤ n → n ≤ 3 → outcome_number (outcome_from n) ≡ n
 number_back n lo hi =
     elim (cases_eq n 1) [
@@ -58,6 +61,7 @@ pub data Shape (f : Fields) : Type 0 where
   used : f.kind ≡ 2 → 1 ≤ f.outcome → f.outcome ≤ 3 → f.value < 65536 → f.deadline < 4294967296 → Shape f
   idle : f.kind ≡ 3 → f.item ≡ 0 → f.position ≡ 0 → f.register ≡ 0 → f.outcome ≡ 0 → f.value ≡ 0 → f.deadline ≡ 0 → Shape f
 
+-- a kind other than 0, 1 and 2 whose rules hold is 3, whatever the rules of each kind are
 last_kind : (k : ℕ) (u x s i : Bool) → cond (eqb k 0) u (cond (eqb k 1) x (cond (eqb k 2) s (eqb k 3 && i))) ≡ true → k ≢ 0 → k ≢ 1 → k ≢ 2 → k ≡ 3
 last_kind k u x s i h n0 n1 n2 = grind (arith, nat_tests)
 
@@ -66,22 +70,27 @@ pub slot_small : (f : Fields) → lawful f ≡ true → f.slot < 16777216
 slot_small f h = ltb-true _ _ (and_parts _ _ h).0
 
 module _ (f : Fields) (h : lawful f ≡ true) where
+  -- of fields of kind 0 that keep the rules, all but slot and kind are 0
   of_unassigned : f.kind ≡ 0 → Shape f
   of_unassigned k =
       unassigned k (grind (arith, nat_tests)) (grind (arith, nat_tests)) (grind (arith, nat_tests)) (grind (arith, nat_tests)) (grind (arith, nat_tests)) (grind (arith, nat_tests)) (grind (arith, nat_tests))
 
+  -- of fields of kind 1 that keep the rules, guest, position and deadline are 0, the outcome is 1 to 3 and the value below 65,536
   of_fixed : f.kind ≡ 1 → Shape f
   of_fixed k =
       fixed k (grind (arith, nat_tests)) (grind (arith, nat_tests)) (grind (arith, nat_tests)) (grind (arith, nat_tests)) (grind (arith, nat_tests)) (grind (arith, nat_tests))
 
+  -- of fields of kind 2 that keep the rules, the outcome is 1 to 3, the value below 65,536 and the deadline below 4,294,967,296
   of_used : f.kind ≡ 2 → Shape f
   of_used k =
       used k (grind (arith, nat_tests)) (grind (arith, nat_tests)) (grind (arith, nat_tests)) (grind (arith, nat_tests))
 
+  -- of fields of kind 3 that keep the rules, all but slot, kind and guest are 0
   of_idle : f.kind ≡ 3 → Shape f
   of_idle k =
       idle k (grind (arith, nat_tests)) (grind (arith, nat_tests)) (grind (arith, nat_tests)) (grind (arith, nat_tests)) (grind (arith, nat_tests)) (grind (arith, nat_tests))
 
+  -- fields that keep the rules are of one of the four kinds, with the plain facts of that kind
   pub shape : Shape f
   shape =
       elim (cases_eq f.kind 0) [
@@ -92,6 +101,7 @@ module _ (f : Fields) (h : lawful f ≡ true) where
         ]
       ]
 
+-- nine fields that are equal to nine others one by one are equal to them as a whole
 fields_same : (f g : Fields) → f.slot ≡ g.slot → f.kind ≡ g.kind → f.guest ≡ g.guest → f.item ≡ g.item → f.position ≡ g.position → f.register ≡ g.register
     → f.outcome ≡ g.outcome → f.value ≡ g.value → f.deadline ≡ g.deadline → f ≡ g
 fields_same f g a b c d e i j k l =
@@ -120,12 +130,14 @@ module _ (f : Fields) where
             ap at e ∙ fields_same (at (Idle f.guest)) f refl (sym k) refl (sym i) (sym p) (sym r) (sym o) (sym v) (sym d))
       ]
 
+  -- fields with the plain facts of some kind have a value below 65,536
   value_small : Shape f → f.value < 65536
   value_small (unassigned k g i p r o v d) = omega arith
   value_small (fixed k g p lo hi v d) = v
   value_small (used k lo hi v d) = v
   value_small (idle k i p r o v d) = omega arith
 
+  -- fields with the plain facts of some kind have a deadline below 4,294,967,296
   deadline_small : Shape f → f.deadline < 4294967296
   deadline_small (unassigned k g i p r o v d) = omega arith
   deadline_small (fixed k g p lo hi v d) = omega arith

@@ -49,10 +49,12 @@ failing_found ok n (Some e) h = sym (failing_some ok n 0 e h.0 (omega (arith, h.
 
 -- what a search over a list, item by item with its position, answers
 module _ {X : Type 0} (ok : ℕ → Bool) (test : ℕ × X → Bool) (xs : List X) (d : X) (same : (k : ℕ) → k < length xs → test (k, get_or xs k d) ≡ ok k) where
+  -- a position within the list passes exactly if the item there, with its position, does
   tested : (k : ℕ) → k < length xs → ok k ≡ test (get_or (enumerate_from 0 xs) k (0, d))
   tested k lt =
       sym (ap test (get_or-enumerate_from 0 xs k (0, d) lt) ∙ ap (λ (i : ℕ). test (i, get_or xs k d)) (zero-add k) ∙ same k lt)
 
+  -- a search over the items with their positions answers the first position that the test turns down, or none if all pass
   pub failing_listed : (r : Option ℕ)
       → MatchOption r (AllWithin (λ p. test p ≡ true) (enumerate_from 0 xs) 0 (length (enumerate_from 0 xs)))
       (λ e. (e < length (enumerate_from 0 xs)) × HoldsAt (λ p. test p ≡ false) (enumerate_from 0 xs) e × AllWithin (λ p. test p ≡ true) (enumerate_from 0 xs) 0 e)

@@ -21,24 +21,31 @@ use Rattle.journal.proofs.Failing.{passing}
 
 module _ (number : ℕ) (es : List Entry) (small : number < 4294967296) (some : 1 ≤ length es) (few : length es ≤ 31)
     (fit : (k : ℕ) → k < length es → entry_fits es k ≡ true) where
+  -- the block that the number and the entries make
   abbrev block : List ℕ
   block = block_bytes number es
 
+  -- each of the entries keeps the rules of an entry
   kept : (k : ℕ) → k < length es → lawful (fields_of (entry_at es k)) ≡ true
   kept k lt = (and_parts (lawful (fields_of (entry_at es k))) _ (fit k lt)).0
 
+  -- the slot of the first entry is below 16,777,216
   first_small : first_slot es < 16777216
   first_small = omega (arith, slot_small (fields_of (entry_at es 0)) (kept 0 some), slot_of (entry_at es 0))
 
+  -- the count that the block states is how many entries made it
   count_is : count_in block ≡ length es
   count_is = from_be_bytes-to_be_bytes_2 (length es) (omega arith)
 
+  -- the first slot that the block states is that of the first entry
   first_is : first_slot_in block ≡ first_slot es
   first_is = from_be_bytes-to_be_bytes_4 (first_slot es) (omega (arith, first_small))
 
+  -- each place of the block below the count has the fields of its entry
   fields_are : (k : ℕ) → k < length es → fields_at (place_bytes block k) ≡ fields_of (entry_at es k)
   fields_are k lt = ap fields_at (place_used number es k lt) ∙ bytes_back (fields_of (entry_at es k)) (kept k lt)
 
+  -- the header of the block keeps its rules
   header_good : header_lawful block ≡ true
   header_good =
       let count = count_is in
@@ -47,6 +54,7 @@ module _ (number : ℕ) (es : List Entry) (small : number < 4294967296) (some : 
       let gap : number2 block 6 ≡ 0 = refl in
       grind (arith, nat_tests)
 
+  -- each of the 31 places of the block keeps its rules
   place_good : (k : ℕ) → k < 31 → place_lawful block k ≡ true
   place_good k lt =
       let c = count_is in
@@ -63,11 +71,13 @@ module _ (number : ℕ) (es : List Entry) (small : number < 4294967296) (some : 
             ∙ ap all_zero (place_unused number es k unused lt))
       ]
 
+  -- every rule of the format holds of the block
   good : Good block
   good =
       let s = sums_made (body_bytes number es) (length_body number es few) in
       record { sums = and_from _ _ (eq-eqb _ _ s.0) (eq-eqb _ _ s.1); header = header_good; places = place_good }
 
+  -- the entries that the first places of the block spell are those that made it
   entries_are : entries_in block (length es) ≡ es
   entries_are =
       ext_get_or _ (entries_in block (length es)) es (length-map-range_with_len (entry_in block) 0 (length es)) (λ k lt.
@@ -75,6 +85,7 @@ module _ (number : ℕ) (es : List Entry) (small : number < 4294967296) (some : 
       get_or-map-range_with_len (entry_in block) 0 (length es) k k _ below (omega arith)
       ∙ ap entry_from (fields_are k below) ∙ entry_back (entry_at es k))
 
+  -- the block of a 32-bit number and 1 to 31 entries that each fit their place reads back as that number and those entries
   pub reads_back : ReadsBack number es (block_bytes number es)
   reads_back places n =
       let long = length_block number es few in
@@ -95,6 +106,7 @@ pub record Written (es : List Entry) : Type 0 where
   pub few : length es ≤ 31
   pub fit : (k : ℕ) → k < length es → entry_fits es k ≡ true
 
+-- entries that `write` takes are 1 to 31, and each fits its place
 written_facts : (es : List Entry) (block : List ℕ) → write_answer es block ≡ Ok tt → Written es
 unfolding entries_answer
 written_facts es block w =

@@ -26,6 +26,7 @@ pub record Header (block : List ℕ) : Type 0 where
   pub gap : number2 block 6 ≡ 0
   pub first : first_slot_in block < 16777216
 
+-- a header that keeps the rules states 1 to 31 entries and a first slot below 16,777,216, and its bytes 6 and 7 are zero
 pub header_facts : (block : List ℕ) → header_lawful block ≡ true → Header block
 header_facts block h = record {
   some = grind (arith, nat_tests);
@@ -34,12 +35,14 @@ header_facts block h = record {
   first = grind (arith, nat_tests);
 }
 
+-- a list whose every number is 0 is zeros, as many as it is long
 zeros_are : (xs : List ℕ) → all_zero xs ≡ true → xs ≡ replicate (length xs) 0
 zeros_are [] h = refl
 zeros_are (x ∷ xs) h =
     let p = and_parts (eqb x 0) (all_zero xs) h in
     ap (λ (y : ℕ). y ∷ xs) (eqb-true x 0 p.0) ∙ ap (λ (q : List ℕ). 0 ∷ q) (zeros_are xs p.1)
 
+-- every part of a list of bytes is of bytes too
 part_bytes : (n m : ℕ) (bs : List ℕ) → Bytes bs → Bytes (take n (drop m bs))
 part_bytes n m bs h i = elim (cases_lt i n) [
   | inl lt ↦ subst (λ (x : ℕ). x < 256) (sym (get_or-take n (drop m bs) i 0 lt ∙ get_or-drop m bs i 0)) (h (m + i))
@@ -48,6 +51,7 @@ part_bytes n m bs h i = elim (cases_lt i n) [
       subst (λ (x : ℕ). x < 256) (sym (get_or_past (take n (drop m bs)) i 0 past)) (omega arith))
 ]
 
+-- the first twelve of 512 bytes are the header of the number, count and first slot that they state, if bytes 6 and 7 are zero
 header_read : (block : List ℕ) → length block ≡ 512 → Bytes block → number2 block 6 ≡ 0 → take 12 block ≡ header_bytes (number4 block 0) (count_in block) (first_slot_in block)
 header_read block n h z =
     let a = digits4 (get_or block 0 0) (get_or block 1 0) (get_or block 2 0) (get_or block 3 0) (h 0) (h 1) (h 2) (h 3) in
@@ -58,6 +62,7 @@ header_read block n h z =
     let e : header_bytes (number4 block 0) (count_in block) (first_slot_in block) ≡ spelled 12 0 block = cc in
     sym (spelled_is 12 0 block (omega arith)) ∙ sym e
 
+-- 512 bytes are the first 508 and the sums of these, if the sums that stand at the end are those of bytes 0 to 507
 sums_read : (block : List ℕ) → length block ≡ 512 → Bytes block
     → number2 block 508 ≡ sum_a (take 508 block) → number2 block 510 ≡ sum_b (take 508 block) → block ≡ take 508 block ++ sum_bytes (take 508 block)
 sums_read block n h ea eb =
@@ -75,41 +80,52 @@ place_next block k =
     ap (λ (m : ℕ). take m block) n ∙ take-add (12 + 16 * k) 16 block
 
 module _ (block : List ℕ) (long : length block ≡ 512) (bytes : Bytes block) (good : Good block) where
+  -- the entries that the places of the block below its count spell
   abbrev entries : List Entry
   entries = entries_in block (count_in block)
 
+  -- the block keeps the rules of a header, as plain facts
   header : Header block
   header = header_facts block good.header
 
+  -- each of the 31 places of the block has sixteen bytes
   length_place : (k : ℕ) → k < 31 → length (place_bytes block k) ≡ 16
   length_place k lt = length-take-le 16 (drop (12 + 16 * k) block) (simp length-drop (omega arith))
 
+  -- the fields in place k, below the count, keep the rules of an entry for the first slot plus k
   used_fits : (k : ℕ) → k < count_in block → fits (first_slot_in block + k) (fields_at (place_bytes block k)) ≡ true
   used_fits k lt =
       sym (cond-true (ltb k (count_in block)) _ _ (lt-ltb k (count_in block) lt)) ∙ good.places k (omega (arith, header.few))
 
+  -- the fields in place k, below the count, keep the rules of an entry, and their slot is the first slot plus k
   used_facts : (k : ℕ) → k < count_in block → (lawful (fields_at (place_bytes block k)) ≡ true) × (eqb (fields_at (place_bytes block k)).slot (first_slot_in block + k) ≡ true)
   used_facts k lt = and_parts (lawful (fields_at (place_bytes block k))) _ (used_fits k lt)
 
+  -- the entry that a place below the count spells has the fields that stand in the place
   fields_are : (k : ℕ) → k < count_in block → fields_of (entry_in block k) ≡ fields_at (place_bytes block k)
   fields_are k lt = fields_back (fields_at (place_bytes block k)) (used_facts k lt).0
 
+  -- a place below the count has the bytes of the entry that it spells
   place_entry : (k : ℕ) → k < count_in block → place_bytes block k ≡ entry_bytes (entry_in block k)
   place_entry k lt =
       sym (ap field_bytes (fields_are k lt)
       ∙ part_back (place_bytes block k) (length_place k (omega (arith, header.few))) (part_bytes 16 (12 + 16 * k) block bytes))
 
+  -- the entries that the block spells are as many as its count
   length_entries : length entries ≡ count_in block
   length_entries = length-map-range_with_len (entry_in block) 0 (count_in block)
 
+  -- entry k of the entries that the block spells is the one that place k spells, for each k below the count
   entry_at-entries : (k : ℕ) → k < count_in block → entry_at entries k ≡ entry_in block k
   entry_at-entries k lt = get_or-map-range_with_len (entry_in block) 0 (count_in block) k k _ lt (omega arith)
 
+  -- the slot of the first entry that the block spells is the first slot that the block states
   first_is : first_slot entries ≡ first_slot_in block
   first_is =
       let lt : 0 < count_in block = omega (arith, header.some) in
       ap (λ (e : Entry). e.slot) (entry_at-entries 0 lt) ∙ eqb-true (fields_at (place_bytes block 0)).slot (first_slot_in block + 0) (used_facts 0 lt).1 ∙ add-zero (first_slot_in block)
 
+  -- each of the entries that the block spells fits its place
   entry_fits-entries : (k : ℕ) → k < length entries → entry_fits entries k ≡ true
   entry_fits-entries k l =
       let lt : k < count_in block = subst (λ (n : ℕ). k < n) length_entries l in
@@ -118,6 +134,7 @@ module _ (block : List ℕ) (long : length block ≡ 512) (bytes : Bytes block) 
       ∙ ap (fits (first_slot_in block + k)) (fields_are k lt)
       ∙ used_fits k lt
 
+  -- up to place m, which is at most the count, the block is its first twelve bytes and the bytes of its first m entries
   entries_read : (m : ℕ) → m ≤ count_in block → take (12 + 16 * m) block ≡ take 12 block ++ flat_map entry_bytes (entries_in block m)
   entries_read zero le = sym (append-nil (take 12 block))
   entries_read (suc m) le =
@@ -130,11 +147,13 @@ module _ (block : List ℕ) (long : length block ≡ 512) (bytes : Bytes block) 
       ∙ ap (λ (q : List Entry). take 12 block ++ flat_map entry_bytes q) (sym (map-range_with_len_more (entry_in block) 0 m m (omega arith)))
       ∙ ap (λ (n : ℕ). take 12 block ++ flat_map entry_bytes (entries_in block n)) (add-one m)
 
+  -- each of the 31 places of the block from the count on is sixteen zeros
   unused_zero : (k : ℕ) → count_in block ≤ k → k < 31 → place_bytes block k ≡ replicate 16 0
   unused_zero k ge lt =
       zeros_are (place_bytes block k) (sym (cond-false (ltb k (count_in block)) _ _ (le-ltb k (count_in block) ge)) ∙ good.places k lt)
       ∙ ap (λ (n : ℕ). replicate n 0) (length_place k lt)
 
+  -- up to j places past the count, of 31 in all, the block is what it is up to the count, and 16 × j zeros
   zeros_read : (j : ℕ) → count_in block + j ≤ 31 → take (12 + 16 * (count_in block + j)) block ≡ take (12 + 16 * count_in block) block ++ replicate (16 * j) 0
   zeros_read zero le = ap (λ (n : ℕ). take (12 + 16 * n) block) (add-zero (count_in block)) ∙ sym (append-nil (take (12 + 16 * count_in block) block))
   zeros_read (suc j) le =
@@ -165,6 +184,7 @@ module _ (block : List ℕ) (long : length block ≡ 512) (bytes : Bytes block) 
       (entries_read (count_in block) (omega arith)) zeros
       (sums_read block long bytes (eqb-true _ _ s.0) (eqb-true _ _ s.1))
 
+  -- writing the entries that the block spells, under its number, gives the block, whatever the places past the count hold
   writes_back : (places : List Entry) → WritesBack (heading_in block) (entries ++ drop (count_in block) places) block
   writes_back places copy n =
       let front : take (count_in block) (entries ++ drop (count_in block) places) ≡ entries =

@@ -239,6 +239,7 @@ short_two : First (LinkServedAt two_fixed (guest 2 1 0 8 0 ∷ [])) 2
 unfolding servers_demand supply least_to window_free link_served? quick_supply
 short_two = record { broken = λ le. omega (arith, le); before = before }
   where
+    -- in fewer than 2 slots a guest of budget 1 in period 2 is served on the table of two fixed slots
     before : (k : ℕ) → k < 2 → LinkServedAt two_fixed (guest 2 1 0 8 0 ∷ []) k
     before zero h = lit≤ tt
     before (suc zero) h = lit≤ tt
