@@ -12,8 +12,8 @@ pub record Meaning : Type 0 where
   pub accepts : ℕ → ℕ → Bool
 
 -- a device with no more than contents and a yes or no
-abbrev pub plain : List ℕ → (ℕ → ℕ → Bool) → Meaning
-plain xs f = record { contents = xs; accepts = f }
+abbrev pub plain_device : List ℕ → (ℕ → ℕ → Bool) → Meaning
+plain_device xs f = record { contents = xs; accepts = f }
 
 -- how many registers there are
 abbrev pub register_count : Meaning → ℕ
@@ -27,7 +27,7 @@ is_accepted m r v = nat_lt r (register_count m) && m.accepts r v
 abbrev pub write_answer : Meaning → ℕ → ℕ → Result (Unit {0}) Refused
 write_answer m r v = if is_accepted m r v then Ok tt else Err refused
 
--- what a write leaves: if it is accepted, the value in its register, and else nothing changed
+-- what a device means after a write: if it is accepted, the value is in its register, and all else is as it was
 abbrev pub after_write : Meaning → ℕ → ℕ → Meaning
 after_write m r v = if is_accepted m r v then record m { contents = slice_set m.contents r v } else m
 

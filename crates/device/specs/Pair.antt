@@ -7,5 +7,5 @@ abbrev pub in_row : ℕ → List ℕ → Meaning → Meaning → Meaning
 in_row n xs a b = record { contents = xs; accepts = λ r v. if nat_lt r n then a.accepts r v else b.accepts (r - n) v }
 
 -- two devices as one: the registers of the first, then those of the second, but none past 255
-abbrev pub paired : Meaning → Meaning → Meaning
-paired a b = in_row (register_count a) (take 256 (a.contents ++ b.contents)) a b
+abbrev pub pair_of : Meaning → Meaning → Meaning
+pair_of a b = in_row (register_count a) (take 256 (a.contents ++ b.contents)) a b

@@ -1,7 +1,7 @@
 // A cap: a layer that keeps values of some registers low.
 ghost use Rattle.std.specs.Prelude.{◌≡◌};
 ghost use Rattle.std.specs.Range.{range_inclusive_start, range_inclusive_end};
-ghost use Rattle.device.specs.Cap.{capped};
+ghost use Rattle.device.specs.Cap.{cap_over};
 
 use crate::{Device, Refused};
 use std::ops::RangeInclusive;
@@ -18,7 +18,7 @@ pub struct Cap<D> {
 impl<D: Device> Cap<D> {
     // A cap over a device. A range whose first register is above its last one has no register.
     pub fn new(below: D, registers: RangeInclusive<u8>, highest: u16) -> Cap<D>
-        ensures { ⟦<Cap<D> as Device>⟧.meaning result ≡ capped (range_inclusive_start registers) (range_inclusive_end registers) highest (D.meaning below) }
+        ensures { ⟦<Cap<D> as Device>⟧.meaning result ≡ cap_over (range_inclusive_start registers) (range_inclusive_end registers) highest (D.meaning below) }
     {
         let (first, last) = registers.into_inner();
         Cap {
@@ -31,7 +31,7 @@ impl<D: Device> Cap<D> {
 }
 
 impl<D: Device> Device for Cap<D> {
-    ghost meaning = { λ c. capped c.first c.last c.highest (D.meaning c.below) };
+    ghost meaning = { λ c. cap_over c.first c.last c.highest (D.meaning c.below) };
 
     fn register_count(&mut self) -> u32 {
         self.below.register_count()

@@ -31,8 +31,8 @@ impl fmt::Display for Refused {
 
 impl Error for Refused {}
 
-// A device, by what it means: a content for each register, and which values each register takes. Every call takes the device for writing, since a device may have
-// to move or to remember something in order to answer; what it means changes by an accepted write alone.
+// A device, by what it means: a content for each register, and which values each register takes. Every call takes the device for writing, since a
+// device may have to move or to remember something in order to answer. What it means changes by an accepted write alone.
 pub trait Device {
     ghost meaning: { Self → Meaning };
 
@@ -41,7 +41,7 @@ pub trait Device {
         ensures answer { result ≡ register_count (meaning self.old) }
         ensures kept { meaning self.new ≡ meaning self.old };
 
-    // Puts a value in a register. It is refused if there is no such register, or the register does not take the value; then nothing changes.
+    // Puts a value in a register. It is refused if there is no such register, or the register does not take the value; then the device means what it meant.
     fn write(&mut self, register: u8, value: u16) -> Result<(), Refused>
         ensures answer { result ≡ write_answer (meaning self.old) register value }
         ensures after { meaning self.new ≡ after_write (meaning self.old) register value };

@@ -1,6 +1,6 @@
 // A pair: a layer that puts the registers of two devices in a row.
 ghost use Rattle.std.specs.Prelude.{◌≡◌};
-ghost use Rattle.device.specs.Pair.{paired};
+ghost use Rattle.device.specs.Pair.{pair_of};
 
 use crate::{Device, Refused};
 
@@ -17,14 +17,14 @@ pub struct Pair<A, B> {
 impl<A: Device, B: Device> Pair<A, B> {
     // Both devices, the first one's registers first.
     pub fn new(first: A, second: B) -> Pair<A, B>
-        ensures { ⟦<Pair<A, B> as Device>⟧.meaning result ≡ paired (A.meaning first) (B.meaning second) }
+        ensures { ⟦<Pair<A, B> as Device>⟧.meaning result ≡ pair_of (A.meaning first) (B.meaning second) }
     {
         Pair { first, second }
     }
 }
 
 impl<A: Device, B: Device> Device for Pair<A, B> {
-    ghost meaning = { λ p. paired (A.meaning p.first) (B.meaning p.second) };
+    ghost meaning = { λ p. pair_of (A.meaning p.first) (B.meaning p.second) };
 
     #[tactic(auto, using(crate::proofs::Pairs::counts_both))]
     fn register_count(&mut self) -> u32 {

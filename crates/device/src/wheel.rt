@@ -12,8 +12,11 @@ const STEPS: u16 = 200;
 pub struct FilterWheel {
     steps: u16,
     shutter: u16,
+    // The motor stands at a filter, and not between two.
     ghost whole: { steps % 200 ≡ 0 },
+    // It stands at most at the last filter.
     ghost within: { steps ≤ 2200 },
+    // The shutter is 0 or 1.
     ghost flag: { shutter ≤ 1 },
 }
 

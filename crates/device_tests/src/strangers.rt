@@ -1,6 +1,6 @@
 // Devices that the library does not know.
 ghost use Rattle.std.specs.Prelude.{◌≡◌, false, ◌∷◌, [], replicate, take};
-ghost use Rattle.device.specs.Meaning.{plain};
+ghost use Rattle.device.specs.Meaning.{plain_device};
 ghost use Rattle.device_tests.specs.Blinds.{blinds};
 
 use device::{Device, Refused};
@@ -60,7 +60,7 @@ impl Device for Blinds {
 pub struct Seal;
 
 impl Device for Seal {
-    ghost meaning = { λ _. plain (7 ∷ []) (λ _ _. false) };
+    ghost meaning = { λ _. plain_device (7 ∷ []) (λ _ _. false) };
 
     fn register_count(&mut self) -> u32 {
         1

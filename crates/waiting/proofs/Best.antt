@@ -22,7 +22,7 @@ module _ {R : Type 0} (waits : R → Bool) (rank : R → Rank) where
   IsBest xs n None = (q : ℕ) (d : R) → q < n → waits (slice_index_or xs q d) ≡ false
   IsBest xs n (Some b) = GoesFirstOf xs n b.0 b.1
 
-  -- what goes first of all records goes first
+  -- the best of all records goes first
   goes_first : (xs : List R) (y : R) (p : ℕ) (r : Rank) → GoesFirstOf xs (length xs) p r → GoesFirst waits rank xs p (slice_index_or xs p y)
   goes_first xs y p r best = record {
     there = slice_get-get_or xs p y best.within;
@@ -36,28 +36,32 @@ module _ {R : Type 0} (waits : R → Bool) (rank : R → Rank) where
         best.first q z (slice_get_within xs q z there) (rw z_is waiting) (ap rank z_is ∙ same ∙ best.ranked y);
   }
 
-  -- the best of all records is the answer
+  -- an answer that names the best of all records, or none where none waits, names the record that goes first
   pub best_names_first : (xs : List R) (b : Option (ℕ × Rank)) → IsBest xs (length xs) b → NamesFirst waits rank xs (option_map (λ c. c.0) b)
   best_names_first xs None none = none
   best_names_first [] (Some b) best = absurd (omega (arith, best.within))
   best_names_first (y ∷ xs) (Some b) best = (slice_index_or (y ∷ xs) b.0 y, goes_first (y ∷ xs) y b.0 b.1 best)
 
-  -- with one record more, x at position n
+  -- with one record more, the last, at position n
   module _ (xs : List R) (n : ℕ) (d : R) (inside : n < length xs) where
     -- a place of the records so far is an earlier one or the last one
     earlier_or_last : (P : ℕ → Type 0) → ((q : ℕ) → q < n → P q) → P n → (q : ℕ) → q < n + 1 → P q
     earlier_or_last P earlier last q l = ⊎_elim (λ below. earlier q below) (λ past. let here : n ≡ q = omega (arith, l, past) in subst P here last) (cases_lt q n)
 
-    -- the last one at any default
-    last_is : (e : R) → slice_index_or xs n e ≡ slice_index_or xs n d
+    -- the last record
+    abbrev last : R
+    last = slice_index_or xs n d
+
+    -- it is read at any default
+    last_is : (e : R) → slice_index_or xs n e ≡ last
     last_is e = get_or_default xs n e d inside
 
     -- it does not wait, and none before it does
-    none_waits : waits (slice_index_or xs n d) ≡ false → IsBest xs n None → IsBest xs (n + 1) None
+    none_waits : waits last ≡ false → IsBest xs n None → IsBest xs (n + 1) None
     none_waits idle none q e = earlier_or_last (λ k. waits (slice_index_or xs k e) ≡ false) (λ k below. none k e below) (ap waits (last_is e) ∙ idle) q
 
     -- it does not wait with a lesser rank: the best stays
-    stays : (p : ℕ) (r : Rank) → (waits (slice_index_or xs n d) ≡ true → ranks_before (rank (slice_index_or xs n d)) r ≡ false) → GoesFirstOf xs n p r → GoesFirstOf xs (n + 1) p r
+    stays : (p : ℕ) (r : Rank) → (waits last ≡ true → ranks_before (rank last) r ≡ false) → GoesFirstOf xs n p r → GoesFirstOf xs (n + 1) p r
     stays p r not_less best = record {
       within = omega (arith, best.within);
       waiting = best.waiting;
@@ -73,18 +77,18 @@ module _ {R : Type 0} (waits : R → Bool) (rank : R → Rank) where
     }
 
     -- it waits, and each one before it that waits has a greater rank: it goes first
-    takes_over : waits (slice_index_or xs n d) ≡ true → ((q : ℕ) (e : R) → q < n → waits (slice_index_or xs q e) ≡ true → ranks_before (rank (slice_index_or xs n d)) (rank (slice_index_or xs q e)) ≡ true) → GoesFirstOf xs (n + 1) n (rank (slice_index_or xs n d))
+    takes_over : waits last ≡ true → ((q : ℕ) (e : R) → q < n → waits (slice_index_or xs q e) ≡ true → ranks_before (rank last) (rank (slice_index_or xs q e)) ≡ true) → GoesFirstOf xs (n + 1) n (rank last)
     takes_over ready greater = record {
       within = omega arith;
       waiting = λ e. ap waits (last_is e) ∙ ready;
       ranked = λ e. ap rank (last_is e);
       least = λ q e.
-          earlier_or_last (λ k. waits (slice_index_or xs k e) ≡ true → ranks_before (rank (slice_index_or xs k e)) (rank (slice_index_or xs n d)) ≡ false)
-          (λ k below waiting. before_one_way (rank (slice_index_or xs n d)) (rank (slice_index_or xs k e)) (greater k e below waiting))
-          (λ _. ap (λ x. ranks_before (rank x) (rank (slice_index_or xs n d))) (last_is e) ∙ not_before_itself (rank (slice_index_or xs n d))) q;
+          earlier_or_last (λ k. waits (slice_index_or xs k e) ≡ true → ranks_before (rank (slice_index_or xs k e)) (rank last) ≡ false)
+          (λ k below waiting. before_one_way (rank last) (rank (slice_index_or xs k e)) (greater k e below waiting))
+          (λ _. ap (λ x. ranks_before (rank x) (rank last)) (last_is e) ∙ not_before_itself (rank last)) q;
       first = λ q e.
-          earlier_or_last (λ k. waits (slice_index_or xs k e) ≡ true → rank (slice_index_or xs k e) ≡ rank (slice_index_or xs n d) → n ≤ k)
-          (λ k below waiting same. absurd (before_and_equal (rank (slice_index_or xs n d)) (rank (slice_index_or xs k e)) (greater k e below waiting) same))
+          earlier_or_last (λ k. waits (slice_index_or xs k e) ≡ true → rank (slice_index_or xs k e) ≡ rank last → n ≤ k)
+          (λ k below waiting same. absurd (before_and_equal (rank last) (rank (slice_index_or xs k e)) (greater k e below waiting) same))
           (λ _ _. omega arith) q;
     }
 
@@ -94,21 +98,21 @@ module _ {R : Type 0} (waits : R → Bool) (rank : R → Rank) where
         ⊎_elim
         (λ ready. among b best ready)
         (λ idle. (b, idles b best idle))
-        (cases_Bool (waits (slice_index_or xs n d)))
+        (cases_Bool (waits last))
       where
         -- the last one does not wait
-        idles : (b : Option (ℕ × Rank)) → IsBest xs n b → waits (slice_index_or xs n d) ≡ false → IsBest xs (n + 1) b
+        idles : (b : Option (ℕ × Rank)) → IsBest xs n b → waits last ≡ false → IsBest xs (n + 1) b
         idles None none idle = none_waits idle none
         idles (Some b) best idle = stays b.0 b.1 (λ ready. absurd (true≢false (sym ready ∙ idle))) best
 
         -- the last one waits
-        among : (b : Option (ℕ × Rank)) → IsBest xs n b → waits (slice_index_or xs n d) ≡ true → (c : Option (ℕ × Rank)) × IsBest xs (n + 1) c
-        among None none ready = (Some (n, rank (slice_index_or xs n d)), takes_over ready (λ q e below waiting. absurd (true≢false (sym waiting ∙ none q e below))))
+        among : (b : Option (ℕ × Rank)) → IsBest xs n b → waits last ≡ true → (c : Option (ℕ × Rank)) × IsBest xs (n + 1) c
+        among None none ready = (Some (n, rank last), takes_over ready (λ q e below waiting. absurd (true≢false (sym waiting ∙ none q e below))))
         among (Some b) best ready =
             ⊎_elim
-            (λ less. (Some (n, rank (slice_index_or xs n d)), takes_over ready (λ q e below waiting. before_no_less (rank (slice_index_or xs n d)) b.1 (rank (slice_index_or xs q e)) less (best.least q e below waiting))))
+            (λ less. (Some (n, rank last), takes_over ready (λ q e below waiting. before_no_less (rank last) b.1 (rank (slice_index_or xs q e)) less (best.least q e below waiting))))
             (λ not_less. (Some b, stays b.0 b.1 (λ _. not_less) best))
-            (cases_Bool (ranks_before (rank (slice_index_or xs n d)) b.1))
+            (cases_Bool (ranks_before (rank last) b.1))
 
   -- of the first n records there is a best, unless none waits
   pub best_of_first : (xs : List R) (n : ℕ) → n ≤ length xs → (b : Option (ℕ × Rank)) × IsBest xs n b

@@ -35,11 +35,11 @@ module _ {R : Type 0} (waits : R → Bool) (rank : R → Rank) (xs : List R) whe
     none_lesser : list_any (λ y. waits y && ranks_before (rank y) (rank x)) xs ≡ false
     none_lesser = list_any_none _ xs (λ k d l. and_fails _ _ (first.least k (slice_index_or xs k d) (slice_get-get_or xs k d l)))
 
-    -- it has the least rank
+    -- it waits with the least rank
     has_least : waits_with_least_rank waits rank xs x ≡ true
     has_least = simp (first.waiting, none_lesser)
 
-    -- a record before it waits with a greater rank, or does not wait
+    -- no record before it waits with the least rank
     not_before : (k : ℕ) (d : R) → k < p → k < length xs → waits_with_least_rank waits rank xs (slice_index_or xs k d) ≡ false
     not_before k d below l =
         let y = slice_index_or xs k d in

@@ -1,13 +1,13 @@
--- The record that goes first, changed.
+-- A list with the record changed that an answer names.
 use Rattle.std.specs.Prelude.{ℕ, List, slice_get, slice_set, Option, Some, None}
 
 module _ {R : Type 0} (change : R → R) where
-  -- a list of which the record at a position is changed, if there is one
-  abbrev pub changed_at : List R → ℕ → Option R → List R
-  changed_at xs p None = xs
-  changed_at xs p (Some x) = slice_set xs p (change x)
+  -- the list with the record at position p changed, if there is one
+  abbrev pub with_change_at : List R → ℕ → Option R → List R
+  with_change_at xs p None = xs
+  with_change_at xs p (Some x) = slice_set xs p (change x)
 
-  -- a list of which the record is changed that an answer names, if it names one
-  abbrev pub changed : List R → Option ℕ → List R
-  changed xs None = xs
-  changed xs (Some p) = changed_at xs p (slice_get xs p)
+  -- the list with the record changed that an answer names, or as it was where it names none
+  abbrev pub with_change : List R → Option ℕ → List R
+  with_change xs None = xs
+  with_change xs (Some p) = with_change_at xs p (slice_get xs p)

@@ -1,6 +1,6 @@
 // Callers that lend an array, and know it afterwards.
 ghost use Rattle.std.specs.Prelude.{◌≡◌};
-ghost use Rattle.waiting_tests.specs.Slots.{first_server, after_grant, after_end};
+ghost use Rattle.waiting_tests.specs.Kinds.{first_server, after_grant, after_end};
 
 use crate::records::{Job, Server};
 use decline::Decline;

@@ -1,5 +1,5 @@
 // Two kinds of records that wait.
-ghost use Rattle.waiting_tests.specs.Slots.{server_waits, server_rank, job_waits, job_rank};
+ghost use Rattle.waiting_tests.specs.Kinds.{server_waits, server_rank, job_waits, job_rank};
 
 use waiting::{Rank, Waits};
 

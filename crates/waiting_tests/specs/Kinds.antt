@@ -1,6 +1,6 @@
--- Two kinds of records, and what a slot does to those that go first.
+-- Two kinds of records, and lists in which the one that goes first is changed.
 use Rattle.std.specs.Prelude.{ℕ, ◌-◌, Bool, false, nat_lt, List, Option}
-use Rattle.waiting.specs.Change.{changed}
+use Rattle.waiting.specs.Change.{with_change}
 use Rattle.waiting.specs.Earliest.{earliest}
 use Rattle.waiting.specs.declared.Rank.{Rank}
 use Rattle.waiting_tests.specs.declared.records.Job.{Job}
@@ -20,7 +20,7 @@ first_server xs = earliest server_waits server_rank xs
 
 -- the servers after a grant: one slot of the budget of the server that goes first is used
 abbrev pub after_grant : List Server → List Server
-after_grant xs = changed (λ s. record s { budget = s.budget - 1 }) xs (first_server xs)
+after_grant xs = with_change (λ s. record s { budget = s.budget - 1 }) xs (first_server xs)
 
 -- a job waits while it is pending
 abbrev pub job_waits : Job → Bool
@@ -32,4 +32,4 @@ job_rank j = record { first = j.deadline; second = j.task }
 
 -- the jobs after the one that goes first has ended
 abbrev pub after_end : List Job → List Job
-after_end xs = changed (λ j. record j { pending = false }) xs (earliest job_waits job_rank xs)
+after_end xs = with_change (λ j. record j { pending = false }) xs (earliest job_waits job_rank xs)
