@@ -1,6 +1,7 @@
-// Prints the verdicts on setup A, on variants of it, and on guests that have no task.
+// Prints the verdicts on setup A, on variants of it, and on guests that have no task, and the drawing of each timetable.
 #![tactic(auto)]
 
+mod drawing;
 mod samples;
 mod verdicts;
 

@@ -1,15 +1,21 @@
-// The verdicts, one line each.
+// The verdicts, one line each, and the drawings.
+use crate::drawing::print_drawing;
 use crate::samples::*;
 use admission::{Setup, Verdict, VerdictLine, judge};
 use std::io::{self, Write};
 
-// Prints what is judged, and the verdict on it.
+// What the marks of a drawing mean.
+const MARKS: &str =
+    "marks: A to Z and a to f are fixed operations 1 to 32, 1 to 9 and g to m guests 1 to 16, a bar the start of a period";
+
+// Prints what is judged, the verdict on it, and its drawing if it is accepted.
 fn print_verdict<W: Write>(what: &str, setup: &Setup<'_>, out: &mut W) -> io::Result<()> {
     let verdict = Verdict {
         answer: judge(setup, REGISTERS),
     };
     let line = VerdictLine { what, verdict };
-    writeln!(out, "{line}")
+    writeln!(out, "{line}")?;
+    print_drawing(setup, REGISTERS, out)
 }
 
 // Prints the verdicts on setup A and on variants of it.
@@ -30,7 +36,7 @@ fn print_lone_guests<W: Write>(out: &mut W) -> io::Result<()> {
     for (what, table, period) in [
         (
             "table 1 1 0 0 0 0 0 0 0 0 and one guest with budget 1 in period 2",
-            TWO_FIXED.as_slice(),
+            ADJACENT.as_slice(),
             2,
         ),
         (
@@ -46,16 +52,32 @@ fn print_lone_guests<W: Write>(out: &mut W) -> io::Result<()> {
     ] {
         print_verdict(
             what,
-            &setup_without_tasks(table, &guest_without_tasks(period)),
+            &setup_without_tasks(table, &ONE_FIXED, &lone_guest(period)),
             out,
         )?;
     }
     Ok(())
 }
 
-// Prints all verdicts.
+// Prints the verdicts on setups of several guests that have no task.
+fn print_shared<W: Write>(out: &mut W) -> io::Result<()> {
+    print_verdict(
+        "a table of 24 slots with two fixed operations, and guests with periods 5, 7 and 11",
+        &setup_without_tasks(&TABLE_24, &TWO_FIXED, &three_guests()),
+        out,
+    )?;
+    print_verdict(
+        "a table of 84 slots with 28 fixed operations, and ten guests",
+        &setup_without_tasks(&sparse_table(), &MANY_FIXED, &ten_guests()),
+        out,
+    )
+}
+
+// Prints all verdicts, and last what the marks of the drawings mean.
 pub(crate) fn print_all<W: Write>(out: &mut W) -> io::Result<()> {
     print_variants(out)?;
     print_lone_guests(out)?;
+    print_shared(out)?;
+    writeln!(out, "{MARKS}")?;
     out.flush()
 }

@@ -3,7 +3,7 @@ use Rattle.std.specs.Prelude.{◌≡◌, ℕ, cond, List, ◌++◌, Ok, Err, cod
 use Rattle.decline.specs.declared.Part.{Part}
 use Rattle.decline.specs.declared.Part.TheVariants.{Registers, Session, Table, FixedOperations, Guests, Tasks, Operations}
 use Rattle.decline.specs.declared.Decline.{Decline}
-use Rattle.decline.specs.declared.Decline.TheVariants.{SetupLimits, TableByte, ServerLimits, GuestWindow, TaskLimits, OperationRegister, LinkSpare, LinkDemand, GuestSpare, GuestDemand, ListPosition, BlockSize, BlockSums, BlockRule}
+use Rattle.decline.specs.declared.Decline.TheVariants.{SetupLimits, TableByte, ServerLimits, GuestWindow, TaskLimits, OperationRegister, LinkSpare, LinkDemand, GuestSpare, GuestDemand, ListPosition, SessionEnd, BlockSize, BlockSums, BlockRule}
 use Rattle.decline.specs.declared.DeclineNumbers.{DeclineNumbers}
 
 -- the number of each part: 0 for the register count of the device, then the six parts of a setup
@@ -29,6 +29,7 @@ numbers_of (LinkDemand w) = record { number = 8; guest = 0; place = w }
 numbers_of (GuestSpare g) = record { number = 9; guest = g; place = 0 }
 numbers_of (GuestDemand g w) = record { number = 10; guest = g; place = w }
 numbers_of (ListPosition p) = record { number = 13; guest = 0; place = p }
+numbers_of SessionEnd = record { number = 18; guest = 0; place = 0 }
 numbers_of BlockSize = record { number = 19; guest = 0; place = 0 }
 numbers_of BlockSums = record { number = 20; guest = 0; place = 0 }
 numbers_of (BlockRule p) = record { number = 21; guest = 0; place = p }
@@ -72,6 +73,7 @@ sentence_text (LinkDemand w) = codes "in " ++ (decimal w ++ codes " successive s
 sentence_text (GuestSpare g) = codes "guest " ++ (decimal g ++ codes " does not have a hundredth of the link to spare in its budget")
 sentence_text (GuestDemand g w) = codes "in " ++ (decimal w ++ (codes " successive slots the tasks of guest " ++ (decimal g ++ codes " may need more than its server supplies")))
 sentence_text (ListPosition p) = codes "the list has no position " ++ decimal p
+sentence_text SessionEnd = codes "all slots of the session have passed"
 sentence_text BlockSize = codes "the block is not of 512 bytes, or the entries are not 1 to 31, or the places are not 31"
 sentence_text BlockSums = codes "the sums at the end of the block are not those of its bytes"
 sentence_text (BlockRule p) =

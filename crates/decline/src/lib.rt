@@ -78,6 +78,8 @@ pub enum Decline {
     GuestDemand { guest: u32, window: u64 },
     // A list has no such position, counted from 0.
     ListPosition { position: u64 },
+    // All slots of the session have passed.
+    SessionEnd,
     // A journal block is not of 512 bytes, or there are not 1 to 31 entries to write, or not 31 places to read into.
     BlockSize,
     // The two sums at the end of a journal block are not those of its bytes.
@@ -112,6 +114,7 @@ impl Decline {
             Decline::GuestSpare { guest } => (9, guest, 0),
             Decline::GuestDemand { guest, window } => (10, guest, window),
             Decline::ListPosition { position } => (13, 0, position),
+            Decline::SessionEnd => (18, 0, 0),
             Decline::BlockSize => (19, 0, 0),
             Decline::BlockSums => (20, 0, 0),
             Decline::BlockRule { place } => (21, 0, place),
@@ -191,6 +194,7 @@ impl fmt::Display for Sentence {
             Decline::ListPosition { position } => {
                 write!(f, "the list has no position {position}")
             }
+            Decline::SessionEnd => write!(f, "all slots of the session have passed"),
             Decline::BlockSize => write!(
                 f,
                 "the block is not of 512 bytes, or the entries are not 1 to 31, or the places are not 31"

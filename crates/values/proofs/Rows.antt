@@ -10,6 +10,10 @@ use Rattle.admission.specs.Demand.{servers_demand, tasks_demand, server_supply, 
 use Rattle.admission.specs.Limits.{SizesOk, FewTasks, BytesOk, ServerOk, Apart, WindowsOk, TaskOk, FixedsOk, OperationsOk}
 use Rattle.decline.specs.declared.DeclineNumbers.{DeclineNumbers}
 use Rattle.admission.specs.Verdict.{First, GuestsHaveSpare, GuestsServed, WellFormed, Accepted, ScheduleFault, Declined}
+use Rattle.schedule.specs.declared.turn.Turn.TheVariants.{Unassigned, Fixed, Granted}
+use Rattle.schedule.specs.Slot.{with_refills}
+use Rattle.schedule.specs.Session.{servers_after}
+use Rattle.schedule.specs.Timetable.{first_turns}
 use Rattle.values.specs.Setups.{guest, table_a, two_fixed, guests_a, tasks_a, operations_a, setup_a, one_guest}
 use Rattle.values.proofs.Confined.{below, below_at, tasks_served?, tasks_served, quick_supply, link_served?, link_served}
 
@@ -299,3 +303,9 @@ pub declined_101 : Declined (one_guest (0 ∷ []) 101 1) 64 (record { number = 9
 declined_101 =
     declined_later (one_guest (0 ∷ []) 101 1) 64 _ (form_one (0 ∷ []) 101 1 (lit≤ tt, lit≤ tt) bytes_free (lit≤ tt) (lit≤ tt) (lit≤ tt))
     (inr (link_spare_101, inr (link_served_free 101 1 (lit≤ tt) (lit≤ tt) (lit≤ tt) link_spare_101, inl (0, refl, lit< tt, no_guest_spare_101))))
+
+-- the first ten turns of setup A
+pub turns_a : first_turns (setup_a 10 3) 10
+    ≡ Fixed 1 ∷ Granted 1 ∷ Granted 1 ∷ Granted 2 ∷ Granted 2 ∷ Fixed 1 ∷ Granted 1 ∷ Granted 1 ∷ Granted 2 ∷ Unassigned ∷ []
+unfolding servers_after with_refills
+turns_a = refl

@@ -6,6 +6,9 @@ use Rattle.journal.specs.Sums.{sum_a, sum_b}
 use Rattle.admission.specs.Plan.{Plan}
 use Rattle.admission.specs.Supply.{supply}
 use Rattle.admission.specs.Verdict.{IsVerdict}
+use Rattle.schedule.specs.declared.turn.Turn.{Turn}
+use Rattle.schedule.specs.declared.turn.Turn.TheVariants.{Unassigned, Fixed, Granted}
+use Rattle.schedule.specs.Timetable.{first_turns}
 use Rattle.values.specs.Setups.{table_a, two_fixed, setup_a, one_guest}
 
 -- the kinds of worked values
@@ -18,6 +21,8 @@ pub data Row : Type 0 where
   supply_is : List ℕ → ℕ → ℕ → Row
   -- `judge` answers this of a plan and a register count
   verdict : Plan → ℕ → Result (Unit {0}) DeclineNumbers → Row
+  -- the turns of slots 0, 1 and so on of this plan are these
+  turns : Plan → List Turn → Row
 
 -- what a row says
 abbrev pub Holds : Row → Type 0
@@ -25,6 +30,7 @@ Holds (block_sums part a b) = (sum_a part ≡ a) × (sum_b part ≡ b)
 Holds (supplies table counts) = map (supply table) (range_with_len 0 (length counts)) ≡ counts
 Holds (supply_is table t n) = supply table t ≡ n
 Holds (verdict p registers answer) = IsVerdict p registers answer
+Holds (turns p ts) = first_turns p (length ts) ≡ ts
 
 -- what every row of a table says
 abbrev pub AllHold : List Row → Type 0
@@ -48,4 +54,6 @@ table =
     ∷ verdict (one_guest two_fixed 2 1) 64 (refused 8 0 2)
     ∷ verdict (one_guest (0 ∷ []) 100 1) 64 (Ok tt)
     ∷ verdict (one_guest (0 ∷ []) 101 1) 64 (refused 9 1 0)
+    ∷ turns (setup_a 10 3)
+    (Fixed 1 ∷ Granted 1 ∷ Granted 1 ∷ Granted 2 ∷ Granted 2 ∷ Fixed 1 ∷ Granted 1 ∷ Granted 1 ∷ Granted 2 ∷ Unassigned ∷ [])
     ∷ []

@@ -18,6 +18,6 @@ pub fn worked_values() -> usize
     ensures hold { AllHold table }
 {
     table_holds();
-    // One row speaks of block sums.
-    1 + ADMISSION_ROWS
+    // One row speaks of block sums, and one of turns.
+    ADMISSION_ROWS + 2
 }

@@ -1,0 +1,12 @@
+use Rattle.std.proofs.Common.{rules, arith, encode_utf8}
+use Rattle.std.proofs.Output.{has_written_append, has_written_of_eq}
+use Rattle.admit.specs.Drawing.{period_mark}
+use Rattle.admit.proofs.Rows.{texts_more}
+use Rattle.admit.proofs.drawing.PeriodRowDisplay.fmt.Goals as goal
+
+-- one mark more is written
+pub loop-slot-preserved : goal.loop-slot-preserved
+loop-slot-preserved g c plain =
+    has_written_of_eq _ _ _ _ _
+    (texts_more (λ s. encode_utf8 (period_mark c.args.self.now.period s)) c.args.self.now.slots.first _ c.loop-slot.slot _ (omega arith) (omega arith))
+    (has_written_append _ _ _ _ _ _ (c.loop-slot.invariant plain) (search rules))

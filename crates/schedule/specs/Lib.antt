@@ -1,0 +1,4 @@
+pub mod Session
+pub mod Slot
+pub mod Timetable
+pub mod Turns

@@ -1,0 +1,63 @@
+-- A session, slot by slot.
+use Rattle.std.specs.Prelude.{◌≡◌, ℕ, zero, suc, ◌+◌, ◌<◌, ◌≤◌, nat_lt, List, length, map, Result, Ok, Err, if◌then◌else◌}
+use Rattle.std.specs.List.{range_with_len, All}
+use Rattle.decline.specs.declared.Decline.TheVariants.{SessionEnd}
+use Rattle.decline.specs.declared.DeclineNumbers.{DeclineNumbers}
+use Rattle.decline.specs.Refusals.{numbers_of}
+use Rattle.admission.specs.declared.setup.Guest.{Guest}
+use Rattle.admission.specs.Plan.{Plan, guest_at}
+use Rattle.admission.specs.Limits.{ServerOk}
+use Rattle.admission.specs.Verdict.{Accepted, Declined}
+use Rattle.schedule.specs.declared.server.Server.{Server}
+use Rattle.schedule.specs.declared.turn.Turn.{Turn}
+use Rattle.schedule.specs.Slot.{turn_of, after_slot, server_at}
+
+-- n servers at the start of a session, of the guests from 1 on: no budget, and a boundary at slot 0
+abbrev pub servers_at_start : ℕ → List Server
+servers_at_start n = map (λ i. record { guest = i + 1; left = 0; boundary = 0 }) (range_with_len 0 n)
+
+-- the servers when n slots have passed
+unfoldable pub servers_after : List ℕ → List Guest → ℕ → List Server
+servers_after table gs zero = servers_at_start (length gs)
+servers_after table gs (suc n) = after_slot table gs n (servers_after table gs n)
+
+-- whose turn slot s of a session is
+abbrev pub turn_at : List ℕ → List Guest → ℕ → Turn
+turn_at table gs s = turn_of table gs s (servers_after table gs s)
+
+-- a session under way: what its turns go by, and how many of its slots have passed
+pub record Session : Type 0 where
+  pub slots : ℕ
+  pub table : List ℕ
+  pub guests : List Guest
+  pub passed : ℕ
+
+-- the session of a plan when n slots have passed
+abbrev pub session_after : Plan → ℕ → Session
+session_after p n = record { slots = p.session; table = p.table; guests = p.guests; passed = n }
+
+-- table, guests and session keep their limits, and no more slots have passed than the session has
+pub record LimitsKept (slots : ℕ) (table : List ℕ) (guests : List Guest) (passed : ℕ) : Type 0 where
+  pub bytes : 0 < length table
+  pub few : length guests ≤ 16
+  pub servers : All ServerOk guests
+  pub short : slots ≤ 16777216
+  pub begun : passed ≤ slots
+
+-- these are the servers when so many slots have passed, and of no budget is more left than the budget
+pub record ServersKept (table : List ℕ) (guests : List Guest) (passed : ℕ) (servers : List Server) : Type 0 where
+  pub by_rule : servers ≡ servers_after table guests passed
+  pub within_budget : (i : ℕ) → i < length guests → (server_at servers i).left ≤ (guest_at guests i).budget
+
+-- what comes of making servers from a setup on a device of some registers: it is accepted, and its session is before its first slot, or it is declined by these three numbers
+abbrev pub IsStart : Plan → ℕ → Result Session DeclineNumbers → Type 0
+IsStart p registers (Ok s) = Accepted p registers × (s ≡ session_after p 0)
+IsStart p registers (Err m) = Declined p registers m
+
+-- what passing a slot answers: whose turn it is, or a refusal where all slots have passed
+abbrev pub pass_answer : Session → Result Turn DeclineNumbers
+pass_answer s = if nat_lt s.passed s.slots then Ok (turn_at s.table s.guests s.passed) else Err (numbers_of SessionEnd)
+
+-- the session after passing a slot: one slot more has passed, or where all have, no change
+abbrev pub after_pass : Session → Session
+after_pass s = if nat_lt s.passed s.slots then record s { passed = s.passed + 1 } else s

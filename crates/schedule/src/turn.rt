@@ -1,0 +1,36 @@
+// Whose turn a slot is.
+ghost use Rattle.std.specs.Prelude.{◌≡◌};
+ghost use Rattle.schedule.specs.Turns.{turn_numbers, SaysWhoseTurn};
+
+// Whose turn a slot is. Fixed operations and guests are numbered from 1.
+#[derive(Clone, Copy, PartialEq, Eq, Debug)]
+pub enum Turn {
+    // Nobody's: the slot table leaves it free, and no guest has budget left.
+    Unassigned,
+    // The slot table gives it to a fixed operation.
+    Fixed { operation: u8 },
+    // It is granted to a guest.
+    Granted { guest: u8 },
+}
+
+// A turn as two numbers: which case it is, and the fixed operation or the guest; 0 where there is none.
+#[derive(Clone, Copy, PartialEq, Eq, Debug)]
+pub struct TurnNumbers {
+    pub case: u8,
+    pub number: u8,
+}
+
+impl Turn {
+    // The two numbers of this turn; no other turn has the same two.
+    pub fn numbers(&self) -> TurnNumbers
+        ensures value { result ≡ turn_numbers self.now }
+        ensures distinct { SaysWhoseTurn }
+    {
+        let (case, number) = match *self {
+            Turn::Unassigned => (0, 0),
+            Turn::Fixed { operation } => (1, operation),
+            Turn::Granted { guest } => (2, guest),
+        };
+        TurnNumbers { case, number }
+    }
+}
