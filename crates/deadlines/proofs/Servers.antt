@@ -62,10 +62,10 @@ aligned_next g s left ready boundary new_boundary pos r a =
     ]
 
 -- a step takes from a stream no more than it has slots, and adds nothing
-serves_near : (n served : ℕ) (ready deadline left : ℕ → ℕ) → Serves n served ready deadline left → (k : ℕ) → k < n → (left k ≤ ready k) × (ready k ≤ left k + served)
-serves_near n served ready deadline left (no_slot z same) k h = (omega (arith, same k h), omega (arith, same k h))
-serves_near n served ready deadline left (no_work z same) k h = (omega (arith, same k h), omega (arith, same k h))
-serves_near n served ready deadline left (serves i l one falls same first) k h =
+serves_near : (n slots : ℕ) (ready deadline left : ℕ → ℕ) → Serves n slots ready deadline left → (k : ℕ) → k < n → (left k ≤ ready k) × (ready k ≤ left k + slots)
+serves_near n slots ready deadline left (no_slot z same) k h = (omega (arith, same k h), omega (arith, same k h))
+serves_near n slots ready deadline left (no_work z same) k h = (omega (arith, same k h), omega (arith, same k h))
+serves_near n slots ready deadline left (serves i l one falls same first) k h =
     elim (dec_eq k i) [
       | yes e ↦ (let f : ready k ≡ suc (left k) = rw e falls in (omega arith, omega arith))
       | no e ↦ (omega (arith, same k h e), omega (arith, same k h e))
@@ -111,7 +111,7 @@ module _ (table : List ℕ) (gs : List Guest) (left ready boundary : ℕ → ℕ
 
   -- the servers over the slots, as a course of streams
   abbrev servers : Course
-  servers = record { time = λ s. s; served = slot_free table; left = left; ready = ready; deadline = boundary; allowed = boundary }
+  servers = record { time = λ s. s; slots = slot_free table; left = left; ready = ready; deadline = boundary; allowed = boundary }
 
   -- it serves them the earliest deadline first
   earliest_first : EarliestFirst (length gs) (λ k. server_task (guest_at gs k)) servers

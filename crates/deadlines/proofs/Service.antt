@@ -32,13 +32,13 @@ unfolding due_by
 late_none d i k ready deadline left late same first = grind (arith, nat_tests)
 
 -- a step that serves the earliest deadline first leaves of the work due by d at most what was there, less the slots that the step has
-pub served_first : (n served : ℕ) (ready deadline left : ℕ → ℕ) (d : ℕ) → Serves n served ready deadline left
-    → sum_below (λ k. due_by d (deadline k) (left k)) n ≤ sum_below (λ k. due_by d (deadline k) (ready k)) n - served
-served_first n served ready deadline left d (no_slot none same) =
+pub served_first : (n slots : ℕ) (ready deadline left : ℕ → ℕ) (d : ℕ) → Serves n slots ready deadline left
+    → sum_below (λ k. due_by d (deadline k) (left k)) n ≤ sum_below (λ k. due_by d (deadline k) (ready k)) n - slots
+served_first n slots ready deadline left d (no_slot none same) =
     omega (arith, sum_below_same (λ k. due_by d (deadline k) (left k)) (λ k. due_by d (deadline k) (ready k)) n (λ k h. ap (due_by d (deadline k)) (same k h)))
-served_first n served ready deadline left d (no_work none same) =
+served_first n slots ready deadline left d (no_work none same) =
     omega (arith, sum_below_none (λ k. due_by d (deadline k) (left k)) n (λ k h. omega (arith, due_le d (deadline k) (left k), none k h, same k h)))
-served_first n served ready deadline left d (serves i l one fall same first) =
+served_first n slots ready deadline left d (serves i l one fall same first) =
     elim (dec_lt d (deadline i)) [
       | yes late ↦
           (let none = sum_below_none (λ k. due_by d (deadline k) (left k)) n (λ k h. late_none d i k ready deadline left late (same k h) (first k h)) in

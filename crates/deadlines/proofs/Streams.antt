@@ -47,11 +47,11 @@ module _ (n : ℕ) (stream : ℕ → Task) (c : Course) (apart : (k : ℕ) → k
   due_none d = sum_below_none (due_before c d 0) n (λ k h. omega (arith, due_le d (c.deadline 0 k) (c.left 0 k), e.start k h))
 
   -- after a step at most what was due by d and what it adds is due by d, less what it serves
-  due_after : (d i : ℕ) → sum_below (due_before c d (suc i)) n ≤ (sum_below (due_before c d i) n + sum_below (released_due c d i) n) - c.served i
+  due_after : (d i : ℕ) → sum_below (due_before c d (suc i)) n ≤ (sum_below (due_before c d i) n + sum_below (released_due c d i) n) - c.slots i
   unfolding due_before released_due
   due_after d i =
       let more = sum_below_le (λ k. due_by d (c.deadline (suc i) k) (c.ready i k)) (λ k. due_before c d i k + released_due c d i k) n (λ k h. omega arith) in
-      omega (arith, more, sum_below_add (due_before c d i) (released_due c d i) n, served_first n (c.served i) (c.ready i) (c.deadline (suc i)) (c.left (suc i)) d (e.serves i))
+      omega (arith, more, sum_below_add (due_before c d i) (released_due c d i) n, served_first n (c.slots i) (c.ready i) (c.deadline (suc i)) (c.left (suc i)) d (e.serves i))
 
   -- what a stream releases from step a to step i that is due by d is within its demand for d less the time of step a
   stream_within_demand : (d a i k : ℕ) → a ≤ i → k < n
@@ -73,12 +73,12 @@ module _ (n : ℕ) (stream : ℕ → Task) (c : Course) (apart : (k : ℕ) → k
       let both = sum_below_add (λ k. sum_below (λ j. released_due c d j k) a) (λ k. task_demand (d - c.time a) (stream k)) n in
       omega (arith, each, both, sum_below_swap (released_due c d) i n, sum_below_swap (released_due c d) a n)
 
-  -- of a stream that is due by d at most y is left, if from no step a to step i the demand for d less the time of step a is more than what is served and y
-  pub in_time : (i d y : ℕ) → ((a : ℕ) → a ≤ i → sum_below (λ k. task_demand (d - c.time a) (stream k)) n + sum_below c.served a ≤ sum_below c.served i + y)
+  -- of a stream that is due by d at most y is left, if from no step a to step i the demand for d less the time of step a is more than the slots of these steps and y
+  pub in_time : (i d y : ℕ) → ((a : ℕ) → a ≤ i → sum_below (λ k. task_demand (d - c.time a) (stream k)) n + sum_below c.slots a ≤ sum_below c.slots i + y)
       → (k : ℕ) → k < n → c.deadline i k ≤ d → c.left i k ≤ y
   unfolding due_before
   in_time i d y fits k l h =
-      let p = carried (λ j. sum_below (due_before c d j) n) (λ j. sum_below (released_due c d j) n) c.served (due_none d) (due_after d) i in
+      let p = carried (λ j. sum_below (due_before c d j) n) (λ j. sum_below (released_due c d j) n) c.slots (due_none d) (due_after d) i in
       omega (arith, p.2, released_within_demand d p.0 i p.1, fits p.0 p.1, sum_below_term (due_before c d i) n k l, due_yes d (c.deadline i k) (c.left i k) h)
 
 -- the law of deadlines

@@ -9,7 +9,7 @@ pub record Course : Type 0 where
   -- how many slots have passed before a step
   pub time : ℕ → ℕ
   -- how many slots a step has for the streams
-  pub served : ℕ → ℕ
+  pub slots : ℕ → ℕ
   -- how much work of a stream is left before a step
   pub left : ℕ → ℕ → ℕ
   -- how much there is in it, after what it brings and before it serves
@@ -27,14 +27,14 @@ pub data Brings (k : Task) (time left ready deadline new_deadline allowed new_al
   release : ready ≤ k.cost → new_deadline ≡ time + k.deadline → allowed ≤ time → time + k.separation ≤ new_allowed → Brings k time left ready deadline new_deadline allowed new_allowed
 
 -- how one step serves n streams, the earliest deadline first; which of equal deadlines goes first is left open
-pub data Serves (n served : ℕ) (ready deadline left : ℕ → ℕ) : Type 0 where
+pub data Serves (n slots : ℕ) (ready deadline left : ℕ → ℕ) : Type 0 where
   -- it has no slot for them
-  no_slot : served ≡ 0 → ((k : ℕ) → k < n → left k ≡ ready k) → Serves n served ready deadline left
+  no_slot : slots ≡ 0 → ((k : ℕ) → k < n → left k ≡ ready k) → Serves n slots ready deadline left
   -- none of them has work
-  no_work : ((k : ℕ) → k < n → ready k ≡ 0) → ((k : ℕ) → k < n → left k ≡ ready k) → Serves n served ready deadline left
+  no_work : ((k : ℕ) → k < n → ready k ≡ 0) → ((k : ℕ) → k < n → left k ≡ ready k) → Serves n slots ready deadline left
   -- stream i has one slot of its work done, and no stream with work is due before it
-  serves : (i : ℕ) → i < n → served ≡ 1 → ready i ≡ suc (left i) → ((k : ℕ) → k < n → (k ≡ i → ⊥) → left k ≡ ready k)
-      → ((k : ℕ) → k < n → 0 < ready k → deadline i ≤ deadline k) → Serves n served ready deadline left
+  serves : (i : ℕ) → i < n → slots ≡ 1 → ready i ≡ suc (left i) → ((k : ℕ) → k < n → (k ≡ i → ⊥) → left k ≡ ready k)
+      → ((k : ℕ) → k < n → 0 < ready k → deadline i ≤ deadline k) → Serves n slots ready deadline left
 
 -- n streams begin without work, release as they may, and are served the earliest deadline first
 pub record EarliestFirst (n : ℕ) (stream : ℕ → Task) (c : Course) : Type 0 where
@@ -42,11 +42,11 @@ pub record EarliestFirst (n : ℕ) (stream : ℕ → Task) (c : Course) : Type 0
   pub onward : (i : ℕ) → c.time i ≤ c.time (suc i)
   pub brings : (i k : ℕ) → k < n
       → Brings (stream k) (c.time i) (c.left i k) (c.ready i k) (c.deadline i k) (c.deadline (suc i) k) (c.allowed i k) (c.allowed (suc i) k)
-  pub serves : (i : ℕ) → Serves n (c.served i) (c.ready i) (c.deadline (suc i)) (c.left (suc i))
+  pub serves : (i : ℕ) → Serves n (c.slots i) (c.ready i) (c.deadline (suc i)) (c.left (suc i))
 
 -- from any step to any later one they have at least the slots that a server of this period and budget gives in as many slots as pass
 abbrev pub SuppliedBy : ℕ → ℕ → Course → Type 0
-SuppliedBy period budget c = (a i : ℕ) → a ≤ i → sum_below c.served a + server_supply period budget (c.time i - c.time a) ≤ sum_below c.served i
+SuppliedBy period budget c = (a i : ℕ) → a ≤ i → sum_below c.slots a + server_supply period budget (c.time i - c.time a) ≤ sum_below c.slots i
 
 -- of no stream is anything left when it is due, or later
 abbrev pub NothingLate : ℕ → Course → Type 0

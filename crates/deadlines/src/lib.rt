@@ -11,7 +11,7 @@ fn deadline_law()
     ensures kept { DeadlinesKept }
 {}
 
-// The slot at which a job of a task is due, if so many slots have passed when it starts. Of which work nothing is left then is what the law says.
+// The slot at which a job of a task is due, if so many slots have passed when it starts. The law says of which work nothing is left by its deadline.
 pub fn deadline(task: &Task, start: u32) -> u64
     ensures value { result ≡ start + task.now.deadline }
     ensures kept { DeadlinesKept }

@@ -67,6 +67,7 @@ module _ (p : Plan) (registers : ℕ) (ok : Accepted p registers) where
   abbrev course : ServeGuests p.table p.guests (left_before p.table p.guests) (left_in p.table p.guests) (boundary_before p.table p.guests)
   course = serve_guests p.table p.guests
 
+  -- its table has a byte
   some_byte : 0 < length p.table
   some_byte = omega (arith, ok.form.sizes.table)
 

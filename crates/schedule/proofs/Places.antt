@@ -1,9 +1,9 @@
 -- The places of a timetable, filled in one after another.
-use Rattle.std.proofs.Common.{◌≡◌, sym, ap, ◌∙◌, ℕ, ◌+◌, ◌-◌, ◌<◌, List, [], ◌∷◌, ◌++◌, length, drop, slice_set, Result, Ok, Err, if◌then◌else◌, arith}
+use Rattle.std.proofs.Common.{◌≡◌, sym, ap, ◌∙◌, ℕ, ◌+◌, ◌-◌, ◌<◌, List, [], ◌∷◌, ◌++◌, length, drop, slice_set, refl, Ok, Err, if◌then◌else◌, arith}
 use Rattle.std.proofs.lemmas.Bool.{lt-ltb}
+use Rattle.std.proofs.lemmas.Result.{IfOk-at_ok}
 use Rattle.std.proofs.lemmas.List.{set-append_right, drop_more, append_assoc}
 use Rattle.std.proofs.lemmas.List.FromFn.{length-map-range_with_len, map-range_with_len_more}
-use Rattle.decline.specs.declared.DeclineNumbers.{DeclineNumbers}
 use Rattle.decline.specs.declared.Decline.TheVariants.{SessionEnd}
 use Rattle.decline.specs.Refusals.{numbers_of}
 use Rattle.admission.specs.Plan.{Plan}
@@ -38,9 +38,5 @@ filled_more p places turns s next i t so inside more answers is =
     ap pass_answer so.passed ∙ ap (λ b. if b then Ok (turn_at p.table p.guests i) else Err (numbers_of SessionEnd)) not_over in
     record {
       passed = is ∙ ap after_pass so.passed ∙ ap (λ b. if b then session_after p (i + 1) else session_after p i) not_over;
-      filled = ap (λ ys. slice_set ys i t) so.filled ∙ places_more p places i t inside (ap turn_or (answers ∙ turn));
+      filled = ap (λ ys. slice_set ys i t) so.filled ∙ places_more p places i t inside (IfOk-at_ok (λ u. t ≡ u) (answers ∙ turn) refl);
     }
-  where
-    turn_or : Result Turn DeclineNumbers → Turn
-    turn_or (Ok u) = u
-    turn_or (Err m) = t

@@ -1,5 +1,6 @@
 -- What is kept of a session.
-use Rattle.std.proofs.Common.{◌≡◌, sym, ap, ◌∙◌, ℕ, ◌+◌, ◌<◌, List, [], ◌∷◌, ◌++◌, length, take, slice_set, Result, Ok, Err, arith}
+use Rattle.std.proofs.Common.{◌≡◌, sym, ap, ◌∙◌, ℕ, ◌+◌, ◌<◌, List, [], ◌∷◌, ◌++◌, length, take, slice_set, Result, Ok, refl, arith}
+use Rattle.std.proofs.lemmas.Result.{IfOk-at_ok}
 use Rattle.std.proofs.lemmas.List.{take_more_set}
 use Rattle.std.proofs.lemmas.List.FromFn.{map-range_with_len_more}
 use Rattle.admission.specs.declared.setup.Guest.{Guest}
@@ -9,15 +10,14 @@ use Rattle.decline.specs.declared.Decline.{Decline}
 use Rattle.schedule.specs.declared.server.Server.{Server}
 use Rattle.schedule.specs.declared.turn.Turn.{Turn}
 use Rattle.schedule.specs.Slot.{turn_of, after_slot, server_at}
-use Rattle.schedule.specs.Session.{servers_at_start, servers_after, turn_at, LimitsKept, ServersKept}
+use Rattle.schedule.specs.Session.{server_at_start, servers_at_start, servers_after, turn_at, LimitsKept, ServersKept}
 use Rattle.schedule.proofs.Slots.{within_after_slot, at_start, servers_next}
 
 -- where the first i of some servers are those at the start, with server i set so are the first i + 1
 pub start_more : (vs : List Server) (i : ℕ) → i < length vs → take i vs ≡ servers_at_start i
-    → take (i + 1) (slice_set vs i (record { guest = i + 1; left = 0; boundary = 0 })) ≡ servers_at_start (i + 1)
+    → take (i + 1) (slice_set vs i (server_at_start i)) ≡ servers_at_start (i + 1)
 start_more vs i l so_far =
-    let v : Server = record { guest = i + 1; left = 0; boundary = 0 } in
-    take_more_set vs i v l ∙ ap (λ us. us ++ v ∷ []) so_far ∙ sym (map-range_with_len_more (λ k. record { guest = k + 1; left = 0; boundary = 0 }) 0 i i (omega arith))
+    take_more_set vs i (server_at_start i) l ∙ ap (λ us. us ++ server_at_start i ∷ []) so_far ∙ sym (map-range_with_len_more server_at_start 0 i i (omega arith))
 
 -- of an accepted plan the limits are kept at the start
 pub limits_at_start : (p : Plan) (registers : ℕ) → Accepted p registers → LimitsKept p.session p.table p.guests 0
@@ -43,8 +43,4 @@ kept_next table gs n vs ws k is = record {
 
 -- the turn of a slot by the servers before it is the session's
 pub turn_kept : (table : List ℕ) (gs : List Guest) (n : ℕ) (vs : List Server) (t : Turn) → ServersKept table gs n vs → ◌≡◌ {A = Result Turn Decline} (Ok t) (Ok (turn_of table gs n vs)) → t ≡ turn_at table gs n
-turn_kept table gs n vs t k is = ap turn_or is ∙ ap (turn_of table gs n) k.by_rule
-  where
-    turn_or : Result Turn Decline → Turn
-    turn_or (Ok u) = u
-    turn_or (Err d) = t
+turn_kept table gs n vs t k is = IfOk-at_ok (λ u. t ≡ u) is refl ∙ ap (turn_of table gs n) k.by_rule

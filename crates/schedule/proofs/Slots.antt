@@ -10,7 +10,7 @@ use Rattle.deadlines.proofs.Servers.{Refilled, ServeGuests, granted}
 use Rattle.schedule.specs.declared.server.Server.{Server}
 use Rattle.schedule.specs.declared.turn.Turn.TheVariants.{Fixed}
 use Rattle.schedule.specs.Slot.{with_refill, with_refills, no_server, server_at, first_server, with_grant, byte_at, free_turn, after_slot}
-use Rattle.schedule.specs.Session.{servers_at_start, servers_after, turn_at}
+use Rattle.schedule.specs.Session.{server_at_start, servers_at_start, servers_after, turn_at}
 use Rattle.schedule.proofs.Grants.{grant_count, granted_by_first, length_granted, boundary_granted, left_granted, granted_serves}
 
 -- there are as many servers after the refills as guests
@@ -93,13 +93,15 @@ module _ (table : List ℕ) (gs : List Guest) where
   abbrev server_in : ℕ → ℕ → Server
   server_in s i = server_at (with_refills s gs (servers_after table gs s)) i
 
-  -- what is left of a budget before a slot, and in it, and the boundary before it
+  -- what is left of the budget of guest i before slot s
   abbrev pub left_before : ℕ → ℕ → ℕ
   left_before s i = (server_before s i).left
 
+  -- and in slot s, after the refills
   abbrev pub left_in : ℕ → ℕ → ℕ
   left_in s i = (server_in s i).left
 
+  -- its boundary before slot s
   abbrev pub boundary_before : ℕ → ℕ → ℕ
   boundary_before s i = (server_before s i).boundary
 
@@ -107,8 +109,7 @@ module _ (table : List ℕ) (gs : List Guest) where
   pub at_start : (i : ℕ) → i < length gs → (left_before 0 i ≡ 0) × (boundary_before 0 i ≡ 0)
   unfolding servers_after
   at_start i l =
-      let is : server_at (servers_at_start (length gs)) i ≡ record { guest = i + 1; left = 0; boundary = 0 } =
-      get_or-map-range_with_len (λ k. record { guest = k + 1; left = 0; boundary = 0 }) 0 (length gs) i i no_server l (omega arith) in
+      let is : server_at (servers_at_start (length gs)) i ≡ server_at_start i = get_or-map-range_with_len server_at_start 0 (length gs) i i no_server l (omega arith) in
       (ap (λ v. v.left) is, ap (λ v. v.boundary) is)
 
   -- the servers when a slot more has passed

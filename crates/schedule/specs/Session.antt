@@ -12,9 +12,13 @@ use Rattle.schedule.specs.declared.server.Server.{Server}
 use Rattle.schedule.specs.declared.turn.Turn.{Turn}
 use Rattle.schedule.specs.Slot.{turn_of, after_slot, server_at}
 
--- n servers at the start of a session, of the guests from 1 on: no budget, and a boundary at slot 0
+-- the server at place i at the start of a session: guest i + 1, with nothing left and the boundary 0
+abbrev pub server_at_start : ℕ → Server
+server_at_start i = record { guest = i + 1; left = 0; boundary = 0 }
+
+-- the first n servers at the start
 abbrev pub servers_at_start : ℕ → List Server
-servers_at_start n = map (λ i. record { guest = i + 1; left = 0; boundary = 0 }) (range_with_len 0 n)
+servers_at_start n = map server_at_start (range_with_len 0 n)
 
 -- the servers when n slots have passed
 unfoldable pub servers_after : List ℕ → List Guest → ℕ → List Server
@@ -25,11 +29,14 @@ servers_after table gs (suc n) = after_slot table gs n (servers_after table gs n
 abbrev pub turn_at : List ℕ → List Guest → ℕ → Turn
 turn_at table gs s = turn_of table gs s (servers_after table gs s)
 
--- a session under way: what its turns go by, and how many of its slots have passed
+-- a session under way
 pub record Session : Type 0 where
+  -- how many slots it has
   pub slots : ℕ
+  -- its slot table and its guests, by which its turns go
   pub table : List ℕ
   pub guests : List Guest
+  -- how many of its slots have passed
   pub passed : ℕ
 
 -- the session of a plan when n slots have passed
