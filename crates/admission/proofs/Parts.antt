@@ -94,7 +94,7 @@ abbrev pub Grows : (ℕ → ℕ) → Type 0
 Grows start = (a b : ℕ) → a ≤ b → start a ≤ start b
 
 -- a longer front of a list has no smaller sum
-prefix_grows : {X : Type 0} (f : X → ℕ) (xs : List X) (a b : ℕ) → a ≤ b → sum_by f (take a xs) ≤ sum_by f (take b xs)
+pub prefix_grows : {X : Type 0} (f : X → ℕ) (xs : List X) (a b : ℕ) → a ≤ b → sum_by f (take a xs) ≤ sum_by f (take b xs)
 prefix_grows f xs a b le = rw (sym (ap (sum_by f) (take-take a b xs le))) (sum_by-take-le f (take b xs) a)
 
 -- the starts of tasks do not fall

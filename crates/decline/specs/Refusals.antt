@@ -3,7 +3,7 @@ use Rattle.std.specs.Prelude.{◌≡◌, ℕ, cond, List, ◌++◌, Ok, Err, cod
 use Rattle.decline.specs.declared.Part.{Part}
 use Rattle.decline.specs.declared.Part.TheVariants.{Registers, Session, Table, FixedOperations, Guests, Tasks, Operations}
 use Rattle.decline.specs.declared.Decline.{Decline}
-use Rattle.decline.specs.declared.Decline.TheVariants.{SetupLimits, TableByte, ServerLimits, GuestWindow, TaskLimits, OperationRegister, LinkSpare, LinkDemand, GuestSpare, GuestDemand, ListPosition, SessionEnd, BlockSize, BlockSums, BlockRule}
+use Rattle.decline.specs.declared.Decline.TheVariants.{SetupLimits, TableByte, ServerLimits, GuestWindow, TaskLimits, OperationRegister, LinkSpare, LinkDemand, GuestSpare, GuestDemand, AlreadyLoaded, NotLoaded, NotFound, JobSize, JobTooSoon, JobPending, NoJob, SessionEnd, BlockSize, BlockSums, BlockRule}
 use Rattle.decline.specs.declared.DeclineNumbers.{DeclineNumbers}
 
 -- the number of each part: 0 for the register count of the device, then the six parts of a setup
@@ -28,7 +28,13 @@ numbers_of LinkSpare = record { number = 7; guest = 0; place = 0 }
 numbers_of (LinkDemand w) = record { number = 8; guest = 0; place = w }
 numbers_of (GuestSpare g) = record { number = 9; guest = g; place = 0 }
 numbers_of (GuestDemand g w) = record { number = 10; guest = g; place = w }
-numbers_of (ListPosition p) = record { number = 13; guest = 0; place = p }
+numbers_of AlreadyLoaded = record { number = 11; guest = 0; place = 0 }
+numbers_of NotLoaded = record { number = 12; guest = 0; place = 0 }
+numbers_of (NotFound g p) = record { number = 13; guest = g; place = p }
+numbers_of (JobSize g c) = record { number = 14; guest = g; place = c }
+numbers_of (JobTooSoon g s) = record { number = 15; guest = g; place = s }
+numbers_of (JobPending g t) = record { number = 16; guest = g; place = t }
+numbers_of (NoJob g t) = record { number = 17; guest = g; place = t }
 numbers_of SessionEnd = record { number = 18; guest = 0; place = 0 }
 numbers_of BlockSize = record { number = 19; guest = 0; place = 0 }
 numbers_of BlockSums = record { number = 20; guest = 0; place = 0 }
@@ -72,7 +78,15 @@ sentence_text LinkSpare = codes "the servers do not leave a hundredth of the lin
 sentence_text (LinkDemand w) = codes "in " ++ (decimal w ++ codes " successive slots the servers may need more than the slot table leaves free")
 sentence_text (GuestSpare g) = codes "guest " ++ (decimal g ++ codes " does not have a hundredth of the link to spare in its budget")
 sentence_text (GuestDemand g w) = codes "in " ++ (decimal w ++ (codes " successive slots the tasks of guest " ++ (decimal g ++ codes " may need more than its server supplies")))
-sentence_text (ListPosition p) = codes "the list has no position " ++ decimal p
+sentence_text AlreadyLoaded = codes "a setup is loaded already"
+sentence_text NotLoaded = codes "no setup is loaded"
+sentence_text (NotFound g p) =
+    cond (g == 0) (codes "there is no guest 0, or the list has no position " ++ decimal p)
+    (codes "there is no guest " ++ (decimal g ++ (codes ", or it has no task " ++ decimal p)))
+sentence_text (JobSize g c) = codes "a job of this task of guest " ++ (decimal g ++ (codes " is of 1 to " ++ (decimal c ++ codes " operations")))
+sentence_text (JobTooSoon g s) = codes "the next job of this task of guest " ++ (decimal g ++ (codes " may start at slot " ++ decimal s))
+sentence_text (JobPending g t) = codes "the earlier job of task " ++ (decimal t ++ (codes " of guest " ++ (decimal g ++ codes " is pending")))
+sentence_text (NoJob g t) = codes "task " ++ (decimal t ++ (codes " of guest " ++ (decimal g ++ codes " has no job to withdraw")))
 sentence_text SessionEnd = codes "all slots of the session have passed"
 sentence_text BlockSize = codes "the block is not of 512 bytes, or the entries are not 1 to 31, or the places are not 31"
 sentence_text BlockSums = codes "the sums at the end of the block are not those of its bytes"

@@ -76,8 +76,21 @@ pub enum Decline {
     // The tasks of a guest, counted from 1, may need more slots than its server supplies; the window is the least number of successive
     // slots where they may.
     GuestDemand { guest: u32, window: u64 },
-    // A list has no such position, counted from 0.
-    ListPosition { position: u64 },
+    // A setup is loaded already.
+    AlreadyLoaded,
+    // No setup is loaded.
+    NotLoaded,
+    // There is no such guest, or it has no such task; both count from 1, and the task is 0 where only the guest was asked for.
+    // Guest 0 stands for a list that has no such position, counted from 0, too: as with guest 0 above, both have one number.
+    NotFound { guest: u32, place: u64 },
+    // A job of a guest is not of 1 operation to as many as its task costs.
+    JobSize { guest: u32, cost: u64 },
+    // A job of a guest comes too soon after the last of its task; the slot is the first at which it may start.
+    JobTooSoon { guest: u32, slot: u64 },
+    // The earlier job of a task is still pending.
+    JobPending { guest: u32, task: u64 },
+    // A task has no job to withdraw.
+    NoJob { guest: u32, task: u64 },
     // All slots of the session have passed.
     SessionEnd,
     // A journal block is not of 512 bytes, or there are not 1 to 31 entries to write, or not 31 places to read into.
@@ -113,7 +126,13 @@ impl Decline {
             Decline::LinkDemand { window } => (8, 0, window),
             Decline::GuestSpare { guest } => (9, guest, 0),
             Decline::GuestDemand { guest, window } => (10, guest, window),
-            Decline::ListPosition { position } => (13, 0, position),
+            Decline::AlreadyLoaded => (11, 0, 0),
+            Decline::NotLoaded => (12, 0, 0),
+            Decline::NotFound { guest, place } => (13, guest, place),
+            Decline::JobSize { guest, cost } => (14, guest, cost),
+            Decline::JobTooSoon { guest, slot } => (15, guest, slot),
+            Decline::JobPending { guest, task } => (16, guest, task),
+            Decline::NoJob { guest, task } => (17, guest, task),
             Decline::SessionEnd => (18, 0, 0),
             Decline::BlockSize => (19, 0, 0),
             Decline::BlockSums => (20, 0, 0),
@@ -191,8 +210,32 @@ impl fmt::Display for Sentence {
                 f,
                 "in {window} successive slots the tasks of guest {guest} may need more than its server supplies"
             ),
-            Decline::ListPosition { position } => {
-                write!(f, "the list has no position {position}")
+            Decline::AlreadyLoaded => write!(f, "a setup is loaded already"),
+            Decline::NotLoaded => write!(f, "no setup is loaded"),
+            Decline::NotFound { guest, place } => {
+                if guest == 0 {
+                    write!(
+                        f,
+                        "there is no guest 0, or the list has no position {place}"
+                    )
+                } else {
+                    write!(f, "there is no guest {guest}, or it has no task {place}")
+                }
+            }
+            Decline::JobSize { guest, cost } => write!(
+                f,
+                "a job of this task of guest {guest} is of 1 to {cost} operations"
+            ),
+            Decline::JobTooSoon { guest, slot } => write!(
+                f,
+                "the next job of this task of guest {guest} may start at slot {slot}"
+            ),
+            Decline::JobPending { guest, task } => write!(
+                f,
+                "the earlier job of task {task} of guest {guest} is pending"
+            ),
+            Decline::NoJob { guest, task } => {
+                write!(f, "task {task} of guest {guest} has no job to withdraw")
             }
             Decline::SessionEnd => write!(f, "all slots of the session have passed"),
             Decline::BlockSize => write!(

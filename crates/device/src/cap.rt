@@ -28,6 +28,13 @@ impl<D: Device> Cap<D> {
             highest,
         }
     }
+
+    // The device below, to look at.
+    pub fn below(&self) -> &D
+        ensures { result.now ≡ self.now.below }
+    {
+        &self.below
+    }
 }
 
 impl<D: Device> Device for Cap<D> {

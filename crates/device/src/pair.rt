@@ -21,6 +21,20 @@ impl<A: Device, B: Device> Pair<A, B> {
     {
         Pair { first, second }
     }
+
+    // The device whose registers come first, to look at.
+    pub fn first(&self) -> &A
+        ensures { result.now ≡ self.now.first }
+    {
+        &self.first
+    }
+
+    // The device whose registers come after them, to look at.
+    pub fn second(&self) -> &B
+        ensures { result.now ≡ self.now.second }
+    {
+        &self.second
+    }
 }
 
 impl<A: Device, B: Device> Device for Pair<A, B> {

@@ -23,6 +23,13 @@ impl LampPanel {
     {
         LampPanel { levels: [0; LAMPS] }
     }
+
+    // The levels of all lamps, to look at.
+    pub fn levels(&self) -> &[u16; LAMPS]
+        ensures { result.now ≡ (⟦<LampPanel as Device>⟧.meaning self.now).contents }
+    {
+        &self.levels
+    }
 }
 
 impl Device for LampPanel {

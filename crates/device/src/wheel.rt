@@ -1,5 +1,5 @@
 // The filter wheel.
-ghost use Rattle.std.specs.Prelude.{◌≡◌, ◌≤◌, ◌%◌, ◌/◌};
+ghost use Rattle.std.specs.Prelude.{◌≡◌, ◌≤◌, ◌%◌, ◌/◌, slice_get, Some};
 ghost use Rattle.device.specs.Wheel.{wheel, wheel_at_start};
 
 use crate::{Device, Refused};
@@ -30,6 +30,20 @@ impl FilterWheel {
             shutter: 0,
         }
     }
+
+    // The filter, to look at.
+    pub fn filter(&self) -> u16
+        ensures { slice_get (⟦<FilterWheel as Device>⟧.meaning self.now).contents 0 ≡ Some result }
+    {
+        self.steps / STEPS
+    }
+
+    // The shutter, to look at.
+    pub fn shutter(&self) -> u16
+        ensures { slice_get (⟦<FilterWheel as Device>⟧.meaning self.now).contents 1 ≡ Some result }
+    {
+        self.shutter
+    }
 }
 
 impl Device for FilterWheel {
@@ -50,8 +64,8 @@ impl Device for FilterWheel {
 
     fn read(&mut self, register: u8) -> Result<u16, Refused> {
         match register {
-            0 => Ok(self.steps / STEPS),
-            1 => Ok(self.shutter),
+            0 => Ok(self.filter()),
+            1 => Ok(self.shutter()),
             _ => Err(Refused),
         }
     }

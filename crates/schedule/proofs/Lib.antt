@@ -1,6 +1,6 @@
 mod Refills
 pub mod Grants
 pub mod Slots
-mod Sessions
+pub mod Sessions
 pub mod Counts
 mod Places

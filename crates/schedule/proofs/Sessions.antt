@@ -1,7 +1,9 @@
 -- What is kept of a session.
-use Rattle.std.proofs.Common.{◌≡◌, sym, ap, ◌∙◌, ℕ, ◌+◌, ◌<◌, List, [], ◌∷◌, ◌++◌, length, take, slice_set, Result, Ok, refl, arith}
+use Rattle.std.proofs.Common.{◌≡◌, sym, ap, ◌∙◌, ℕ, ◌+◌, ◌%◌, ◌<◌, mod-lt, List, [], ◌∷◌, ◌++◌, length, take, slice_set, Bool, true, false, cond, Option, Some, None, Result, Ok, refl, arith}
+use native.Mathlib.Decide.{dec_lt}
+use Rattle.std.proofs.lemmas.Grind.{common_steps}
 use Rattle.std.proofs.lemmas.Result.{IfOk-at_ok}
-use Rattle.std.proofs.lemmas.List.{take_more_set}
+use Rattle.std.proofs.lemmas.List.{take_more_set, get_or_past}
 use Rattle.std.proofs.lemmas.List.FromFn.{map-range_with_len_more}
 use Rattle.admission.specs.declared.setup.Guest.{Guest}
 use Rattle.admission.specs.Plan.{Plan}
@@ -9,9 +11,12 @@ use Rattle.admission.specs.Verdict.{Accepted}
 use Rattle.decline.specs.declared.Decline.{Decline}
 use Rattle.schedule.specs.declared.server.Server.{Server}
 use Rattle.schedule.specs.declared.turn.Turn.{Turn}
-use Rattle.schedule.specs.Slot.{turn_of, after_slot, server_at}
-use Rattle.schedule.specs.Session.{server_at_start, servers_at_start, servers_after, turn_at, LimitsKept, ServersKept}
-use Rattle.schedule.proofs.Slots.{within_after_slot, at_start, servers_next}
+use Rattle.admission.specs.Supply.{free?}
+use Rattle.schedule.specs.declared.turn.Turn.TheVariants.{Fixed}
+use Rattle.schedule.specs.Slot.{turn_of, after_slot, server_at, byte_at, free_turn, first_server, with_grant, with_refills}
+use Rattle.schedule.specs.Session.{server_at_start, servers_at_start, servers_after, turn_at, LimitsKept, ServersKept, NamedByByte, IsTurnOf}
+use Rattle.schedule.proofs.Grants.{GrantedBy, granted_by_first}
+use Rattle.schedule.proofs.Slots.{within_after_slot, at_start, servers_next, length_refills}
 
 -- where the first i of some servers are those at the start, with server i set so are the first i + 1
 pub start_more : (vs : List Server) (i : ℕ) → i < length vs → take i vs ≡ servers_at_start i
@@ -44,3 +49,29 @@ kept_next table gs n vs ws k is = record {
 -- the turn of a slot by the servers before it is the session's
 pub turn_kept : (table : List ℕ) (gs : List Guest) (n : ℕ) (vs : List Server) (t : Turn) → ServersKept table gs n vs → ◌≡◌ {A = Result Turn Decline} (Ok t) (Ok (turn_of table gs n vs)) → t ≡ turn_at table gs n
 turn_kept table gs n vs t k is = IfOk-at_ok (λ u. t ≡ u) is refl ∙ ap (turn_of table gs n) k.by_rule
+
+module _ (table : List ℕ) (gs : List Guest) where
+  -- a free slot is granted to one of as many servers as there are guests, or to none
+  free_turn_of : (vs : List Server) (r : Option ℕ) → length vs ≡ length gs → GrantedBy vs r (with_grant vs) → IsTurnOf table gs (free_turn r)
+  free_turn_of vs None long none = tt
+  free_turn_of vs (Some i) long to = (omega arith, omega (arith, to.within, long))
+
+  -- a byte that is not free names a fixed operation
+  named_by_byte : (n : ℕ) → free? (byte_at table n) ≡ false → NamedByByte table (byte_at table n)
+  named_by_byte n taken =
+      elim (dec_lt 0 (length table)) [
+        | yes some ↦ record { some = grind (arith, common_steps); place = n % length table; within = mod-lt n some; named = refl }
+        | no none ↦ (let free : byte_at table n ≡ 0 = get_or_past table (n % length table) 0 (omega (arith, none)) in absurd cc)
+      ]
+
+  -- the turn of a slot, by whether its byte is free
+  turn_by_byte : (n : ℕ) (free : Bool) (t : Turn) → free? (byte_at table n) ≡ free → IsTurnOf table gs t → IsTurnOf table gs (cond free t (Fixed (byte_at table n)))
+  turn_by_byte n true t is granted = granted
+  turn_by_byte n false t is granted = named_by_byte n is
+
+  -- a slot is that of a fixed operation that the table names, or of one of the guests, or nobody's
+  pub turn_of_session : (n : ℕ) → IsTurnOf table gs (turn_at table gs n)
+  turn_of_session n =
+      let vs = with_refills n gs (servers_after table gs n) in
+      turn_by_byte n (free? (byte_at table n)) (free_turn (first_server vs)) refl
+      (free_turn_of vs (first_server vs) (length_refills n gs (servers_after table gs n)) (granted_by_first vs))

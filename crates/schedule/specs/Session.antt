@@ -1,5 +1,5 @@
 -- A session, slot by slot.
-use Rattle.std.specs.Prelude.{◌≡◌, ℕ, zero, suc, ◌+◌, ◌<◌, ◌≤◌, nat_lt, List, length, map, Result, Ok, Err, if◌then◌else◌}
+use Rattle.std.specs.Prelude.{◌≡◌, ℕ, zero, suc, ◌+◌, ◌<◌, ◌≤◌, nat_lt, List, length, map, slice_index, Result, Ok, Err, if◌then◌else◌}
 use Rattle.std.specs.List.{range_with_len, All}
 use Rattle.decline.specs.declared.Decline.TheVariants.{SessionEnd}
 use Rattle.decline.specs.declared.DeclineNumbers.{DeclineNumbers}
@@ -10,6 +10,7 @@ use Rattle.admission.specs.Limits.{ServerOk}
 use Rattle.admission.specs.Verdict.{Accepted, Declined}
 use Rattle.schedule.specs.declared.server.Server.{Server}
 use Rattle.schedule.specs.declared.turn.Turn.{Turn}
+use Rattle.schedule.specs.declared.turn.Turn.TheVariants.{Unassigned, Fixed, Granted}
 use Rattle.schedule.specs.Slot.{turn_of, after_slot, server_at}
 
 -- the server at place i at the start of a session: guest i + 1, with nothing left and the boundary 0
@@ -28,6 +29,19 @@ servers_after table gs (suc n) = after_slot table gs n (servers_after table gs n
 -- whose turn slot s of a session is
 abbrev pub turn_at : List ℕ → List Guest → ℕ → Turn
 turn_at table gs s = turn_of table gs s (servers_after table gs s)
+
+-- fixed operation p, from 1, is named by a byte of the table
+pub record NamedByByte (table : List ℕ) (p : ℕ) : Type 0 where
+  pub some : 1 ≤ p
+  pub place : ℕ
+  pub within : place < length table
+  pub named : slice_index table place ≡ p
+
+-- a turn is that of a fixed operation that the table names, or of one of the guests, or nobody's
+abbrev pub IsTurnOf : List ℕ → List Guest → Turn → Type 0
+IsTurnOf table gs Unassigned = Unit {0}
+IsTurnOf table gs (Fixed p) = NamedByByte table p
+IsTurnOf table gs (Granted g) = (1 ≤ g) × (g ≤ length gs)
 
 -- a session under way
 pub record Session : Type 0 where

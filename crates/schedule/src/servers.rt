@@ -1,10 +1,10 @@
 // The servers of a session, slot by slot.
-ghost use Rattle.std.specs.Prelude.{◌≡◌, ◌+◌, ◌<◌, ◌≤◌, length, take, MatchResult};
+ghost use Rattle.std.specs.Prelude.{◌≡◌, ◌+◌, ◌<◌, ◌≤◌, length, take, MatchResult, IfOk};
 ghost use Rattle.std.specs.List.{All};
 ghost use Rattle.admission.specs.Limits.{ServerOk};
 ghost use Rattle.decline.specs.Refusals.{by_numbers};
 ghost use Rattle.admission.specs.Plan.{plan_of};
-ghost use Rattle.schedule.specs.Session.{Session, servers_at_start, turn_at, LimitsKept, ServersKept, IsStart, pass_answer, after_pass};
+ghost use Rattle.schedule.specs.Session.{Session, servers_at_start, turn_at, LimitsKept, ServersKept, IsStart, pass_answer, after_pass, IsTurnOf};
 
 use crate::server::{Server, pass};
 use crate::turn::Turn;
@@ -71,7 +71,7 @@ fn pass_with(
     requires guests { All ServerOk guests.now }
     requires few { length guests.now ≤ 16 }
     requires kept { ServersKept table.now guests.now slot (take (length guests.now) servers) }
-    ensures { MatchResult result (λ r. (r.0 ≡ turn_at table.now guests.now slot) × ServersKept table.now guests.now (slot + 1) (take (length guests.now) r.1)) (λ d. ⊥) }
+    ensures { MatchResult result (λ r. (r.0 ≡ turn_at table.now guests.now slot) × IsTurnOf table.now guests.now r.0 × ServersKept table.now guests.now (slot + 1) (take (length guests.now) r.1)) (λ d. ⊥) }
 {
     let mut after = servers;
     let turn = pass(slot, table, guests, &mut after[..guests.len()])?;
@@ -115,20 +115,44 @@ impl Servers {
         })
     }
 
+    // How many slots the session has.
+    pub fn session(&self) -> u32
+        ensures { result ≡ self.now.slots }
+    {
+        self.session
+    }
+
+    // How many of them have passed.
+    pub fn passed(&self) -> u32
+        ensures { result ≡ self.now.passed }
+    {
+        self.passed
+    }
+
+    // The slot table by which the turns go.
+    pub fn table(&self) -> &[u8]
+        ensures { result.now ≡ self.now.table }
+    {
+        &self.table[..self.table_length]
+    }
+
+    // The guests of which these are the servers.
+    pub fn guests(&self) -> &[Guest]
+        ensures { result.now ≡ self.now.guests }
+    {
+        &self.guests[..self.guest_count]
+    }
+
     // Passes the next slot, and answers whose turn it is. When all slots of the session have passed it refuses, and changes nothing.
     pub fn pass_slot(&mut self) -> Result<Turn, Decline>
         ensures answer { by_numbers result ≡ pass_answer self.old }
         ensures after { self.new ≡ after_pass self.old }
+        ensures whose { IfOk result (λ t. IsTurnOf self.old.table self.old.guests t) }
     {
         if self.passed >= self.session {
             return Err(Decline::SessionEnd);
         }
-        let (turn, servers) = pass_with(
-            self.passed,
-            &self.table[..self.table_length],
-            &self.guests[..self.guest_count],
-            self.servers,
-        )?;
+        let (turn, servers) = pass_with(self.passed, self.table(), self.guests(), self.servers)?;
         self.servers = servers;
         self.passed += 1;
         Ok(turn)

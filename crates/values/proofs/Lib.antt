@@ -1,2 +1,3 @@
 mod Confined
 mod Rows
+mod Runs

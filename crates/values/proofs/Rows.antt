@@ -1,4 +1,4 @@
--- Why each row of the table holds.
+-- Why the rows on supply, verdicts and turns hold.
 use Rattle.std.proofs.Common.{◌≡◌, ℕ, zero, suc, ◌<◌, ◌≤◌, Bool, T, leb, List, [], ◌∷◌, map, length, get_or, refl, inl, inr, zero-le, arith, lit<, lit≤, leb→le}
 use Rattle.std.specs.List.{All, range_with_len}
 use Rattle.std.proofs.lemmas.List.Elements.{All-from_recursion, All-head, All-tail}

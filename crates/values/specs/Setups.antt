@@ -1,10 +1,11 @@
--- The setups of the worked values, as plans.
-use Rattle.std.specs.Prelude.{ℕ, List, [], ◌∷◌}
+-- The setups of the worked values, as plans, and the calls of their runs.
+use Rattle.std.specs.Prelude.{ℕ, List, [], ◌∷◌, ◌++◌, replicate}
 use Rattle.admission.specs.declared.setup.Operation.{Operation}
 use Rattle.admission.specs.declared.setup.Operation.TheVariants.{Write, Read}
 use Rattle.admission.specs.declared.setup.Guest.{Guest}
 use Rattle.admission.specs.declared.setup.Task.{Task}
 use Rattle.admission.specs.Plan.{Plan}
+use Rattle.runs.specs.Asks.{Ask, release, slot}
 
 -- a guest of a period and a budget, with some registers from a first one on, and some tasks
 abbrev pub guest : ℕ → ℕ → ℕ → ℕ → ℕ → Guest
@@ -52,3 +53,11 @@ one_guest table period budget = record {
   tasks = [];
   operations = [];
 }
+
+-- so many slots, one after another
+abbrev pub slots : ℕ → List Ask
+slots n = replicate n slot
+
+-- three releases of two operations by guest 1 and its task 1: before the first slot, when 19 have passed, and when 20 have
+abbrev pub three_releases : List Ask
+three_releases = release 1 1 2 ∷ slots 19 ++ release 1 1 2 ∷ slot ∷ release 1 1 2 ∷ []

@@ -1,15 +1,23 @@
 -- Worked values, as one table.
-use Rattle.std.specs.Prelude.{◌≡◌, ℕ, List, [], ◌∷◌, map, length, Ok, Err, Result}
+use Rattle.std.specs.Prelude.{◌≡◌, ℕ, ◌==◌, List, [], ◌∷◌, map, filter, length, Ok, Err, Result}
 use Rattle.std.specs.List.{range_with_len}
 use Rattle.decline.specs.declared.DeclineNumbers.{DeclineNumbers}
+use Rattle.journal.specs.declared.entries.Entry.{Entry}
+use Rattle.journal.specs.Entries.{fields_of}
 use Rattle.journal.specs.Sums.{sum_a, sum_b}
+use Rattle.device.specs.Panel.{panel_at_start}
 use Rattle.admission.specs.Plan.{Plan}
 use Rattle.admission.specs.Supply.{supply}
 use Rattle.admission.specs.Verdict.{IsVerdict}
 use Rattle.schedule.specs.declared.turn.Turn.{Turn}
 use Rattle.schedule.specs.declared.turn.Turn.TheVariants.{Unassigned, Fixed, Granted}
 use Rattle.schedule.specs.Timetable.{first_turns}
-use Rattle.values.specs.Setups.{table_a, two_fixed, setup_a, one_guest}
+use Rattle.rig.specs.Calls.{RigState, fresh_rig}
+use Rattle.runs.specs.declared.calls.Reply.TheVariants.{Released}
+use Rattle.runs.specs.Asks.{Ask, load, Answer, Exchange, exchanges}
+use Rattle.runs.specs.Runs.{HasRun}
+use Rattle.runs.specs.Laws.{entries, answers_to}
+use Rattle.values.specs.Setups.{table_a, two_fixed, setup_a, one_guest, slots, three_releases}
 
 -- the kinds of worked values
 pub data Row : Type 0 where
@@ -23,6 +31,28 @@ pub data Row : Type 0 where
   verdict : Plan → ℕ → Result (Unit {0}) DeclineNumbers → Row
   -- the turns of slots 0, 1 and so on of this plan are these
   turns : Plan → List Turn → Row
+  -- when a panel's rig is loaded with this plan and then called so, the entries are of these kinds, and of these guests
+  run_entries : Plan → List Ask → List ℕ → List ℕ → Row
+  -- when a panel's rig is loaded with this plan and then called so, this guest is answered so, and these slots are used
+  run_answers : Plan → List Ask → ℕ → List Answer → List ℕ → Row
+
+-- the slots of the used ones of some entries
+abbrev pub used_slots : List Entry → List ℕ
+used_slots es = map (λ e. e.slot) (filter (λ e. (fields_of e).kind == 2) es)
+
+-- the entries of some calls are of these kinds, and of these guests, with 0 where they are of none
+pub record EntriesAre (ks gs : List ℕ) (xs : List Exchange) : Type 0 where
+  pub kinds : map (λ e. (fields_of e).kind) (entries xs) ≡ ks
+  pub guests : map (λ e. (fields_of e).guest) (entries xs) ≡ gs
+
+-- in some calls a guest is answered so, and these slots are used
+pub record AnswersAre (g : ℕ) (as′ : List Answer) (used : List ℕ) (xs : List Exchange) : Type 0 where
+  pub answers : answers_to g xs ≡ as′
+  pub uses : used_slots (entries xs) ≡ used
+
+-- this is so of the calls and answers of every run of a fresh rig around a panel at its start that is loaded with this plan and then called so
+abbrev pub InEachRun : Plan → List Ask → (List Exchange → Type 0) → Type 0
+InEachRun p calls so = (answers : List Answer) (after : RigState) → HasRun (fresh_rig panel_at_start) (load p ∷ calls) answers after → so (exchanges (load p ∷ calls) answers)
 
 -- what a row says
 abbrev pub Holds : Row → Type 0
@@ -31,6 +61,8 @@ Holds (supplies table counts) = map (supply table) (range_with_len 0 (length cou
 Holds (supply_is table t n) = supply table t ≡ n
 Holds (verdict p registers answer) = IsVerdict p registers answer
 Holds (turns p ts) = first_turns p (length ts) ≡ ts
+Holds (run_entries p calls ks gs) = InEachRun p calls (EntriesAre ks gs)
+Holds (run_answers p calls g as′ used) = InEachRun p calls (AnswersAre g as′ used)
 
 -- what every row of a table says
 abbrev pub AllHold : List Row → Type 0
@@ -38,7 +70,7 @@ AllHold [] = Unit {0}
 AllHold (row ∷ rows) = Holds row × AllHold rows
 
 -- a refusal by its three numbers
-abbrev refused : ℕ → ℕ → ℕ → Result (Unit {0}) DeclineNumbers
+abbrev pub refused : {X : Type 0} → ℕ → ℕ → ℕ → Result X DeclineNumbers
 refused number guest place = Err (record { number = number; guest = guest; place = place })
 
 -- the table
@@ -56,4 +88,6 @@ table =
     ∷ verdict (one_guest (0 ∷ []) 101 1) 64 (refused 9 1 0)
     ∷ turns (setup_a 10 3)
     (Fixed 1 ∷ Granted 1 ∷ Granted 1 ∷ Granted 2 ∷ Granted 2 ∷ Fixed 1 ∷ Granted 1 ∷ Granted 1 ∷ Granted 2 ∷ Unassigned ∷ [])
+    ∷ run_entries (setup_a 10 3) (slots 10) (1 ∷ 3 ∷ 3 ∷ 3 ∷ 3 ∷ 1 ∷ 3 ∷ 3 ∷ 3 ∷ 0 ∷ []) (0 ∷ 1 ∷ 1 ∷ 2 ∷ 2 ∷ 0 ∷ 1 ∷ 1 ∷ 2 ∷ 0 ∷ [])
+    ∷ run_answers (setup_a 10 3) three_releases 1 (Ok (Released 10) ∷ refused 15 1 20 ∷ Ok (Released 30) ∷ []) (1 ∷ 2 ∷ [])
     ∷ []

@@ -18,6 +18,6 @@ pub fn worked_values() -> usize
     ensures hold { AllHold table }
 {
     table_holds();
-    // One row speaks of block sums, and one of turns.
-    ADMISSION_ROWS + 2
+    // One row speaks of block sums, one of turns, and two of runs.
+    ADMISSION_ROWS + 4
 }

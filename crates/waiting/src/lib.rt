@@ -85,8 +85,9 @@ impl<'a, R> WaitingList<'a, R> {
         ensures lent { loan_of self.new ≡ loan_of self.old }
     {
         if position >= self.records.len() {
-            return Err(Decline::ListPosition {
-                position: position as u64,
+            return Err(Decline::NotFound {
+                guest: 0,
+                place: position as u64,
             });
         }
         self.records[position] = replacement;

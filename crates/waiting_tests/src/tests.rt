@@ -143,8 +143,9 @@ fn a_position_past_the_end_is_refused(rt: HostRuntime) {
         let answer = WaitingList::over(&mut servers).replace(position, server(9, 9, 9));
         assert_eq!(rt;
             answer,
-            Err(Decline::ListPosition {
-                position: position as u64
+            Err(Decline::NotFound {
+                guest: 0,
+                place: position as u64
             })
         );
     }
@@ -152,7 +153,7 @@ fn a_position_past_the_end_is_refused(rt: HostRuntime) {
     let mut none: [Server; 0] = [];
     assert_eq!(rt;
         WaitingList::over(&mut none).replace(0, server(9, 9, 9)),
-        Err(Decline::ListPosition { position: 0 })
+        Err(Decline::NotFound { guest: 0, place: 0 })
     );
 }
 

@@ -1,0 +1,9 @@
+pub mod Access
+pub mod Calls
+pub mod Kept
+pub mod Parts
+pub mod Passed
+pub mod Requests
+pub mod Slot
+pub mod State
+pub mod Whole
