@@ -1,7 +1,6 @@
-pub mod Windows
-pub mod Bounds
-pub mod Flat
-pub mod Parts
-mod Rounding
-mod Searches
-pub mod Unique
+pub mod SearchBounds
+pub mod DemandSteps
+pub mod Owners
+mod CeilingDivision
+mod SearchResults
+pub mod UniqueVerdict

@@ -1,10 +1,4 @@
-pub mod Plan
-pub mod Supply
-pub mod Grows
-pub mod Demand
-pub mod Limits
-pub mod Streams
-pub mod Parties
+pub mod TaskSets
 pub mod Verdict
 pub mod Laws
 pub mod Text

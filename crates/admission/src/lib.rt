@@ -1,28 +1,31 @@
-// Admission: the exact verdict on a setup of the imaging link.
+//! Admission: the exact verdict on a setup of the imaging link.
 #![tactic(auto)]
 
+ghost use Rattle.std.specs.Prelude.{IfOk};
 ghost use Rattle.decline.specs.Refusals.{by_numbers};
-ghost use Rattle.admission.specs.Plan.{plan_of};
+ghost use Rattle.setups.specs.Plan.{plan_of, ValuesFit};
 ghost use Rattle.admission.specs.Verdict.{IsVerdict};
-ghost use Rattle.admission.specs.Laws.{SupplyIsLeast, SupplyRepeats, LinkConfined, TasksConfined, TasksConfinedByPauses, OneVerdict};
+ghost use Rattle.admission.specs.Laws.{SupplyIsLeast, SupplyRepeats, LinkSearchBound, TasksSearchBound};
+ghost use Rattle.admission.specs.Laws.{TasksSearchBoundByPauses, OneVerdict};
 
+mod bounds;
+mod guest_tasks;
 mod limits;
-mod parties;
 mod search;
-mod setup;
-mod streams;
 mod supply;
+mod task_set;
 mod text;
 mod workload;
 
+pub use bounds::{SEARCH_FACTOR, SEARCH_LIMIT};
 use decline::Decline;
+use guest_tasks::{GuestTasks, SoundGuestTasks};
 use limits::{
     check_fixed, check_operations, check_servers, check_sizes, check_table, check_tasks,
     check_windows,
 };
-use parties::{Parties, SoundParties};
 use search::{check_guest_demands, check_guest_spares, check_link_demand, check_link_spare};
-pub use setup::{Guest, Operation, Setup, Task};
+pub use setups::{Guest, Operation, Setup, Task};
 use supply::Table;
 pub use text::{Verdict, VerdictLine};
 
@@ -31,35 +34,37 @@ fn admission_laws()
     ensures one { OneVerdict }
     ensures least { SupplyIsLeast }
     ensures repeats { SupplyRepeats }
-    ensures link { LinkConfined }
-    ensures tasks { TasksConfined }
-    ensures pauses { TasksConfinedByPauses }
+    ensures link { LinkSearchBound }
+    ensures tasks { TasksSearchBound }
+    ensures pauses { TasksSearchBoundByPauses }
 {}
 
-// The verdict on a setup for a device of so many registers: accepted, or the first rule that does not hold, at its first place.
+/// The verdict on a setup for a device of so many registers: accepted, or the first rule that fails,
+/// at its first place.
 pub fn judge(setup: &Setup<'_>, registers: u32) -> Result<(), Decline>
     ensures verdict { IsVerdict (plan_of setup.now) registers (by_numbers result) }
+    ensures values { IfOk result (λ _. ValuesFit (plan_of setup.now)) }
     ensures no_other_verdict { OneVerdict }
     ensures supply_is_least { SupplyIsLeast }
     ensures supply_repeats { SupplyRepeats }
-    ensures link_confined { LinkConfined }
-    ensures tasks_confined { TasksConfined }
-    ensures tasks_confined_by_pauses { TasksConfinedByPauses }
+    ensures link_search_bound { LinkSearchBound }
+    ensures tasks_search_bound { TasksSearchBound }
+    ensures tasks_search_bound_by_pauses { TasksSearchBoundByPauses }
 {
     admission_laws();
     check_sizes(setup, registers)?;
     let table = Table { bytes: setup.table };
     check_table(&table, setup.fixed.len())?;
-    let parties = Parties {
+    let guest_tasks = GuestTasks {
         guests: setup.guests,
         tasks: setup.tasks,
     };
-    check_servers(&parties)?;
-    check_windows(&parties, registers)?;
-    check_tasks(&parties)?;
+    check_servers(&guest_tasks)?;
+    check_windows(&guest_tasks, registers)?;
+    check_tasks(&guest_tasks)?;
     check_fixed(setup.fixed, registers)?;
-    check_operations(&parties, setup.operations)?;
-    let sound = SoundParties { parties };
+    check_operations(&guest_tasks, setup.operations)?;
+    let sound = SoundGuestTasks { guest_tasks };
     let servers = sound.servers();
     check_link_spare(&servers, &table)?;
     check_link_demand(&servers, &table)?;

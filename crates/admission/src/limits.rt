@@ -1,27 +1,36 @@
-// The rules 1 to 6 of a setup: sizes, table bytes, servers, windows, tasks and operations.
-// A rule over one list is the library's search and a refusal. One function for all would take both as closures, and would be no plainer.
-ghost use Rattle.std.specs.Prelude.{◌≡◌, ◌↔◌, IsTrue, ◌<◌, length, sum_by};
+//! The rules 1 to 6 of a setup: sizes, table bytes, servers, windows, tasks and operations. A rule over one list is the
+//! library's search and a refusal. One function for all would take both as closures, and would be no plainer.
+ghost use Rattle.std.specs.Prelude.{◌≡◌, ◌↔◌, IsTrue, IfOk, ◌<◌, length, sum_by};
 ghost use Rattle.std.specs.List.{All};
 ghost use Rattle.decline.specs.declared.Decline.TheVariants.{SetupLimits};
-ghost use Rattle.admission.specs.Plan.{plan_of, cost_of};
-ghost use Rattle.admission.specs.Limits.{SizesOk, GuestsSizeOk, BytesOk, ServerOk, window_end, WindowFits, Apart, WindowsOk, TaskOk, FixedsOk, Inside, OperationsOk};
-ghost use Rattle.admission.specs.Verdict.{Decides, Only, SizesFault, BytesFault, ServersFault, WindowsFault, TasksFault, FixedFault, OperationsFault};
+ghost use Rattle.setups.specs.Plan.{plan_of, cost_of, register_of, ValueFits};
+ghost use Rattle.setups.specs.Limits.{SizesOk, GuestsSizeOk, BytesOk, ServerOk, window_end, WindowFits, Apart};
+ghost use Rattle.setups.specs.Limits.{WindowsOk, TaskOk, FixedsOk, Inside, OperationsOk};
+ghost use Rattle.admission.specs.Verdict.{Decides, OnlyRefusal, SizesFault, BytesFault, ServersFault, WindowsFault};
+ghost use Rattle.admission.specs.Verdict.{TasksFault, FixedFault, OperationsFault};
 
-use crate::parties::{Parties, task_total, total_cost};
-use crate::setup::{Guest, Operation, Setup, Task};
+use crate::guest_tasks::GuestTasks;
 use crate::supply::Table;
 use decline::{Decline, Part};
+use setups::{
+    Guest, HIGHEST_COST, LONGEST_PERIOD, LONGEST_SEPARATION, MOST_FIXED_OPERATIONS,
+    MOST_GUEST_TASKS, MOST_GUESTS, MOST_REGISTERS, MOST_SLOTS, MOST_TABLE_BYTES, Operation, Setup,
+    Task, cost_total, task_total,
+};
 
 // Whether there are 1 to 16 guests of at most 8 tasks each.
 fn guests_fit(guests: &[Guest]) -> bool
     ensures { IsTrue result ↔ GuestsSizeOk guests.now }
 {
-    (1..=16).contains(&guests.len()) && guests.iter().all(|g| g.task_count <= 8)
+    (1..=MOST_GUESTS).contains(&guests.len())
+        && guests
+            .iter()
+            .all(|g| g.task_count as usize <= MOST_GUEST_TASKS)
 }
 
 // That a part keeps its limits, or the refusal of that part.
 fn limit(keeps: bool, part: Part) -> Result<(), Decline>
-    ensures { Decides result (IsTrue keeps) (Only (IsTrue keeps) (SetupLimits part)) }
+    ensures { Decides result (IsTrue keeps) (OnlyRefusal (IsTrue keeps) (SetupLimits part)) }
 {
     if keeps {
         Ok(())
@@ -34,14 +43,23 @@ fn limit(keeps: bool, part: Part) -> Result<(), Decline>
 pub(crate) fn check_sizes(setup: &Setup<'_>, registers: u32) -> Result<(), Decline>
     ensures { Decides result (SizesOk (plan_of setup.now) registers) (SizesFault (plan_of setup.now) registers) }
 {
-    limit((1..=256).contains(&registers), Part::Registers)?;
-    limit((1..=16_777_216).contains(&setup.session), Part::Session)?;
-    limit((1..=1024).contains(&setup.table.len()), Part::Table)?;
-    limit(setup.fixed.len() <= 32, Part::FixedOperations)?;
-    limit(guests_fit(setup.guests), Part::Guests)?;
-    limit(setup.tasks.len() == task_total(setup.guests), Part::Tasks)?;
+    limit((1..=MOST_REGISTERS).contains(&registers), Part::Registers)?;
+    limit((1..=MOST_SLOTS).contains(&setup.session), Part::Session)?;
     limit(
-        setup.operations.len() as u64 == total_cost(setup.tasks),
+        (1..=MOST_TABLE_BYTES).contains(&setup.table.len()),
+        Part::Table,
+    )?;
+    limit(
+        setup.fixed.len() <= MOST_FIXED_OPERATIONS,
+        Part::FixedOperations,
+    )?;
+    limit(guests_fit(setup.guests), Part::Guests)?;
+    limit(
+        setup.tasks.len() as u128 == task_total(setup.guests),
+        Part::Tasks,
+    )?;
+    limit(
+        setup.operations.len() as u128 == cost_total(setup.tasks),
         Part::Operations,
     )?;
     Ok(())
@@ -65,14 +83,14 @@ pub(crate) fn check_table(table: &Table<'_>, fixed: usize) -> Result<(), Decline
 fn server_ok(g: Guest) -> bool
     ensures { IsTrue result ↔ ServerOk g }
 {
-    1 <= g.budget && g.budget <= g.period && g.period <= 1024
+    1 <= g.budget && g.budget <= g.period && g.period <= LONGEST_PERIOD
 }
 
 // Rule 3: each server keeps its limits.
-pub(crate) fn check_servers(parties: &Parties<'_>) -> Result<(), Decline>
-    ensures { Decides result (All ServerOk parties.now.guests.now) (ServersFault parties.now.guests.now) }
+pub(crate) fn check_servers(guest_tasks: &GuestTasks<'_>) -> Result<(), Decline>
+    ensures { Decides result (All ServerOk guest_tasks.now.guests.now) (ServersFault guest_tasks.now.guests.now) }
 {
-    match parties.guests.iter().position(|g| !server_ok(*g)) {
+    match guest_tasks.guests.iter().position(|g| !server_ok(*g)) {
         Some(i) => Err(Decline::ServerLimits {
             guest: i as u32 + 1,
         }),
@@ -109,10 +127,12 @@ fn window_ok(g: Guest, earlier: &[Guest], registers: u32) -> bool
 }
 
 // Rule 4: each window has a register, lies in the device and meets no earlier one.
-pub(crate) fn check_windows(parties: &Parties<'_>, registers: u32) -> Result<(), Decline>
-    ensures { Decides result (WindowsOk registers parties.now.guests.now) (WindowsFault registers parties.now.guests.now) }
+pub(crate) fn check_windows(guest_tasks: &GuestTasks<'_>, registers: u32) -> Result<(), Decline>
+    ensures { Decides result
+        (WindowsOk registers guest_tasks.now.guests.now)
+        (WindowsFault registers guest_tasks.now.guests.now) }
 {
-    let guests = parties.guests;
+    let guests = guest_tasks.guests;
     match guests
         .iter()
         .enumerate()
@@ -130,19 +150,21 @@ fn task_ok(k: Task) -> bool
     ensures { IsTrue result ↔ TaskOk k }
 {
     1 <= k.cost
-        && k.cost <= k.deadline
-        && k.deadline <= k.separation
-        && k.separation <= 16_384
-        && k.cost <= 16
+        && k.cost <= k.relative_deadline
+        && k.relative_deadline <= k.separation
+        && k.separation <= LONGEST_SEPARATION
+        && k.cost <= HIGHEST_COST
 }
 
 // Rule 5: each task keeps its limits.
-pub(crate) fn check_tasks(parties: &Parties<'_>) -> Result<(), Decline>
-    ensures { Decides result (All TaskOk parties.now.tasks.now) (TasksFault parties.now.guests.now parties.now.tasks.now) }
+pub(crate) fn check_tasks(guest_tasks: &GuestTasks<'_>) -> Result<(), Decline>
+    ensures { Decides result
+        (All TaskOk guest_tasks.now.tasks.now)
+        (TasksFault guest_tasks.now.guests.now guest_tasks.now.tasks.now) }
 {
     // No list is indexed: a guest's tasks are found by its place, which the refusal tells too.
-    for i in 0..parties.guests.len() {
-        if let Some(j) = parties.tasks_of(i).iter().position(|k| !task_ok(*k)) {
+    for i in 0..guest_tasks.guests.len() {
+        if let Some(j) = guest_tasks.tasks_of(i).iter().position(|k| !task_ok(*k)) {
             return Err(Decline::TaskLimits {
                 guest: i as u32 + 1,
                 task: j as u64 + 1,
@@ -152,14 +174,20 @@ pub(crate) fn check_tasks(parties: &Parties<'_>) -> Result<(), Decline>
     Ok(())
 }
 
+// Whether an operation uses a register of the device.
+fn within(o: Operation, registers: u32) -> bool
+    ensures within { IsTrue result ↔ (register_of o < registers) }
+    ensures value { ValueFits o }
+{
+    u32::from(o.register()) < registers
+}
+
 // Rule 6 of the fixed operations: each uses a register of the device.
 pub(crate) fn check_fixed(fixed: &[Operation], registers: u32) -> Result<(), Decline>
-    ensures { Decides result (FixedsOk fixed.now registers) (FixedFault fixed.now registers) }
+    ensures rule { Decides result (FixedsOk fixed.now registers) (FixedFault fixed.now registers) }
+    ensures values { IfOk result (λ _. All ValueFits fixed.now) }
 {
-    match fixed
-        .iter()
-        .position(|o| u32::from(o.register()) >= registers)
-    {
+    match fixed.iter().position(|o| !within(*o, registers)) {
         Some(i) => Err(Decline::OperationRegister {
             guest: 0,
             position: i as u64 + 1,
@@ -170,23 +198,26 @@ pub(crate) fn check_fixed(fixed: &[Operation], registers: u32) -> Result<(), Dec
 
 // Whether an operation uses a register of a guest's window.
 fn inside(g: Guest, o: Operation) -> bool
-    ensures { IsTrue result ↔ Inside g o }
+    ensures inside { IsTrue result ↔ Inside g o }
+    ensures value { ValueFits o }
 {
     (u64::from(g.first_register)..window_end(g)).contains(&u64::from(o.register()))
 }
 
 // Rule 6 of the guests' operations: each is inside the window of its guest.
-#[tactic(auto, using(crate::proofs::Parts::starts))]
+#[tactic(auto, using(setups::proofs::Parts::starts))]
 pub(crate) fn check_operations(
-    parties: &Parties<'_>,
+    guest_tasks: &GuestTasks<'_>,
     operations: &[Operation],
 ) -> Result<(), Decline>
-    requires { length operations.now ≡ sum_by cost_of parties.now.tasks.now }
-    ensures { Decides result (OperationsOk parties.now.guests.now parties.now.tasks.now operations.now) (OperationsFault parties.now.guests.now parties.now.tasks.now operations.now) }
+    requires { length operations.now ≡ sum_by cost_of guest_tasks.now.tasks.now }
+    ensures rule { Decides result (OperationsOk guest_tasks.now.guests.now guest_tasks.now.tasks.now operations.now)
+        (OperationsFault guest_tasks.now.guests.now guest_tasks.now.tasks.now operations.now) }
+    ensures values { IfOk result (λ _. All ValueFits operations.now) }
 {
-    for (i, g) in parties.guests.iter().enumerate() {
-        let from = parties.operation_start(i);
-        let to = parties.operation_start(i + 1);
+    for (i, g) in guest_tasks.guests.iter().enumerate() {
+        let from = guest_tasks.operation_start(i);
+        let to = guest_tasks.operation_start(i + 1);
         if let Some(q) = operations[from..to].iter().position(|o| !inside(*g, *o)) {
             return Err(Decline::OperationRegister {
                 guest: i as u32 + 1,

@@ -1,21 +1,25 @@
-// Rules 7 to 10 of a setup: the spare hundredth, and the search for a number of slots in which demand is above supply.
+//! Rules 7 to 10 of a setup: the spare hundredth, and the search for a number of slots in which demand is above supply.
 ghost use Rattle.decline.specs.declared.Decline.TheVariants.{LinkSpare};
-ghost use Rattle.admission.specs.Demand.{LinkHasSpare, LinkServed};
-ghost use Rattle.admission.specs.Verdict.{Decides, Only, LinkFault, GuestsHaveSpare, GuestsServed, SparesFault, GuestsFault};
+ghost use Rattle.setups.specs.Demand.{LinkHasSpare, LinkServed};
+ghost use Rattle.admission.specs.Verdict.{Decides, OnlyRefusal, LinkFault, GuestsHaveSpare, GuestsServed, SparesFault};
+ghost use Rattle.admission.specs.Verdict.{GuestsFault};
 
-use crate::parties::SoundParties;
-use crate::setup::Guest;
-use crate::streams::{Share, Streams};
+use crate::bounds::SEARCH_FACTOR;
+use crate::guest_tasks::SoundGuestTasks;
 use crate::supply::{Lookup, Table};
+use crate::task_set::{Share, TaskSet};
 use decline::Decline;
+use setups::Guest;
 
 // Rule 7: the servers leave a hundredth of the link to spare in the free slots.
-#[tactic(auto, unfolding(crate::specs::Demand::LinkHasSpare, crate::specs::Demand::server_shares))]
+#[tactic(auto, unfolding(setups::specs::Demand::LinkHasSpare, setups::specs::Demand::server_shares))]
 pub(crate) fn check_link_spare(
-    servers: &Streams<'_, Guest>,
+    servers: &TaskSet<'_, Guest>,
     table: &Table<'_>,
 ) -> Result<(), Decline>
-    ensures { Decides result (LinkHasSpare table.now.bytes.now servers.now.items.now) (Only (LinkHasSpare table.now.bytes.now servers.now.items.now) LinkSpare) }
+    ensures { Decides result
+        (LinkHasSpare table.now.bytes.now servers.now.items.now)
+        (OnlyRefusal (LinkHasSpare table.now.bytes.now servers.now.items.now) LinkSpare) }
 {
     let free = Share {
         part: table.free_bytes(),
@@ -28,16 +32,19 @@ pub(crate) fn check_link_spare(
     }
 }
 
-// Rule 8: in no number of slots do the servers need more than the table leaves free. The search stops at 100 times the free bytes.
+// Rule 8: in no number of slots do the servers need more than the table leaves free. The search stops at 100 times the
+// free bytes.
 pub(crate) fn check_link_demand(
-    servers: &Streams<'_, Guest>,
+    servers: &TaskSet<'_, Guest>,
     table: &Table<'_>,
 ) -> Result<(), Decline>
     requires { LinkHasSpare table.now.bytes.now servers.now.items.now }
-    ensures { Decides result (LinkServed table.now.bytes.now servers.now.items.now) (LinkFault table.now.bytes.now servers.now.items.now) }
+    ensures { Decides result
+        (LinkServed table.now.bytes.now servers.now.items.now)
+        (LinkFault table.now.bytes.now servers.now.items.now) }
 {
     let lookup = Lookup::of(*table);
-    match servers.first_short(&lookup, 100 * lookup.free) {
+    match servers.first_short(&lookup, SEARCH_FACTOR * lookup.free) {
         Some(t) => Err(Decline::LinkDemand {
             window: u64::from(t),
         }),
@@ -46,11 +53,13 @@ pub(crate) fn check_link_demand(
 }
 
 // Rule 9: the tasks of each guest leave a hundredth of the link to spare in its budget.
-pub(crate) fn check_guest_spares(sound: &SoundParties<'_>) -> Result<(), Decline>
-    ensures { Decides result (GuestsHaveSpare sound.now.parties.guests.now sound.now.parties.tasks.now) (SparesFault sound.now.parties.guests.now sound.now.parties.tasks.now) }
+pub(crate) fn check_guest_spares(sound: &SoundGuestTasks<'_>) -> Result<(), Decline>
+    ensures { Decides result
+        (GuestsHaveSpare sound.now.guest_tasks.guests.now sound.now.guest_tasks.tasks.now)
+        (SparesFault sound.now.guest_tasks.guests.now sound.now.guest_tasks.tasks.now) }
 {
     // With `position` over the places of the guests the proof did not close.
-    for i in 0..sound.parties.guests.len() {
+    for i in 0..sound.guest_tasks.guests.len() {
         if !sound.workload(i).has_spare() {
             return Err(Decline::GuestSpare {
                 guest: i as u32 + 1,
@@ -61,12 +70,14 @@ pub(crate) fn check_guest_spares(sound: &SoundParties<'_>) -> Result<(), Decline
 }
 
 // Rule 10: in no number of slots do the tasks of a guest need more than its server gives.
-pub(crate) fn check_guest_demands(sound: &SoundParties<'_>) -> Result<(), Decline>
-    requires { GuestsHaveSpare sound.now.parties.guests.now sound.now.parties.tasks.now }
-    ensures { Decides result (GuestsServed sound.now.parties.guests.now sound.now.parties.tasks.now) (GuestsFault sound.now.parties.guests.now sound.now.parties.tasks.now) }
+pub(crate) fn check_guest_demands(sound: &SoundGuestTasks<'_>) -> Result<(), Decline>
+    requires { GuestsHaveSpare sound.now.guest_tasks.guests.now sound.now.guest_tasks.tasks.now }
+    ensures { Decides result
+        (GuestsServed sound.now.guest_tasks.guests.now sound.now.guest_tasks.tasks.now)
+        (GuestsFault sound.now.guest_tasks.guests.now sound.now.guest_tasks.tasks.now) }
 {
     // No list is indexed: a guest's server and tasks are found by its place, which the refusal tells too.
-    for i in 0..sound.parties.guests.len() {
+    for i in 0..sound.guest_tasks.guests.len() {
         if let Some(t) = sound.workload(i).first_short() {
             return Err(Decline::GuestDemand {
                 guest: i as u32 + 1,

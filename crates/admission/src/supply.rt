@@ -1,27 +1,27 @@
-// What the slot table leaves free in any number of successive slots.
+//! What the slot table leaves free in any number of successive slots.
 ghost use Rattle.std.specs.Prelude.{◌≡◌, ℕ, ◌≤◌, length, slice_index, EachIndex};
-ghost use Rattle.admission.specs.Supply.{free_bytes, slot_free, supply};
-ghost use Rattle.admission.specs.Limits.{TableSizeOk};
-ghost use Rattle.admission.specs.Grows.{supply-grows};
+ghost use Rattle.setups.specs.Supply.{free_bytes, slot_free, supply};
+ghost use Rattle.setups.specs.Limits.{TableSizeOk};
+ghost use Rattle.setups.proofs.Growth.{supply-grows};
 
-// No search goes past 217,600 slots, and what is asked of slots is asked up to this many. A type for so many slots would have the bound to show at every step.
-pub(crate) const MOST_SLOTS: u32 = 250_000;
+use crate::bounds::SEARCH_LIMIT;
+use setups::MOST_TABLE_BYTES;
 
-// What serves streams of work, and never less in more slots.
+// What serves tasks or servers, and never less in more slots.
 pub(crate) trait Supply {
     ghost gives: { Self → ℕ → ℕ };
 
-    // What it gives in t slots at least.
+    // What it gives in any t successive slots at least, by its supply bound function.
     fn at(&self, t: u32) -> u32
-        requires { t ≤ MOST_SLOTS }
+        requires { t ≤ SEARCH_LIMIT }
         ensures { result ≡ gives self.now t };
 
     ghost grows: { (x : Self) (s t : ℕ) → s ≤ t → gives x s ≤ gives x t };
 }
 
-// How many of at most 1,024 bytes are free. A rule of the project asks for a loop that counts zeros.
+// How many of at most 1,024 bytes are free: one pass that counts the zeros.
 fn free_bytes(bytes: &[u8]) -> u32
-    requires { length bytes.now ≤ 1024 }
+    requires { length bytes.now ≤ MOST_TABLE_BYTES }
     ensures { result ≡ free_bytes bytes.now }
 {
     let mut free = 0;
@@ -69,7 +69,7 @@ impl Table<'_> {
     {
         let mut free = free_bytes(&self.bytes[..t]);
         let mut least = free;
-        // A rule of the project asks for a window that slides, so a step starts from the one before.
+        // A window slides by a slot, so a step costs two look-ups, however long the window is.
         for s in 0..self.bytes.len() - 1 {
             free = free + self.slot_free(s + t) - self.slot_free(s);
             least = least.min(free);
@@ -89,11 +89,12 @@ impl Table<'_> {
     }
 }
 
-// S(0) to S(H - 1) of a table, and F, from which S(t) is read for any t. The crate has no heap, so it has room for the longest table.
+// S(0) to S(H - 1) of a table, and F, from which S(t) is read for any t. The crate has no heap, so it has room for the
+// longest table.
 #[derive(Drop)]
 pub(crate) struct Lookup<'a> {
     table: Table<'a>,
-    counts: [u32; 1024],
+    counts: [u32; MOST_TABLE_BYTES],
     pub(crate) free: u32,
     ghost is_free: { free ≡ free_bytes table.bytes.now },
     ghost are_least: { EachIndex table.bytes.now (λ t. slice_index counts t ≡ supply table.bytes.now t) },
@@ -104,7 +105,7 @@ impl<'a> Lookup<'a> {
     pub(crate) fn of(table: Table<'a>) -> Lookup<'a>
         ensures { result.table.bytes.now ≡ table.entry.bytes.now }
     {
-        let mut counts = [0; 1024];
+        let mut counts = [0; MOST_TABLE_BYTES];
         table.least_windows(&mut counts[..table.bytes.len()]);
         Lookup {
             table,

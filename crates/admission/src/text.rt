@@ -1,11 +1,11 @@
-// A verdict as text.
+//! A verdict as text.
 ghost use Rattle.std.specs.Prelude.{Some};
 ghost use Rattle.admission.specs.Text.{verdict_text, verdict_line};
 
 use decline::Decline;
 use std::fmt;
 
-// What `judge` answered, as text: `accepted`, or the refusal and its sentence.
+/// What `judge` answered, as text: `accepted`, or the refusal and its sentence.
 #[derive(Clone, Copy, PartialEq, Eq, Debug, Drop)]
 pub struct Verdict {
     pub answer: Result<(), Decline>,
@@ -25,10 +25,12 @@ impl fmt::Display for Verdict {
     }
 }
 
-// What was judged, and the verdict on it.
+/// What was judged, and the verdict on it.
 #[derive(Clone, Copy, PartialEq, Eq, Debug, Drop)]
 pub struct VerdictLine<'a> {
+    /// What was judged, in words.
     pub what: &'a str,
+    /// The verdict on it.
     pub verdict: Verdict,
 }
 

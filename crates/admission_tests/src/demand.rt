@@ -1,7 +1,8 @@
-// Tests of the rules 8 and 10: demand and supply of the link and of each guest.
-use crate::samples::*;
+//! Tests of the rules 8 and 10: demand and supply of the link and of each guest.
+use crate::verdicts::*;
 use admission::{Guest, Operation};
 use decline::Decline;
+use samples::{GUESTS_A, OPERATIONS_A, TABLE_A, guest, task};
 use std::array;
 
 // Two fixed slots next to each other leave none of 2 free, wherever they stand and also over the end of the table.
@@ -20,7 +21,7 @@ fn windows_run_over_the_end_of_the_table(rt: HostRuntime) {
     }
     for table in [
         [1, 0, 1, 0, 0, 0, 0, 0, 0, 0],
-        [1, 0, 0, 0, 0, 1, 0, 0, 0, 0],
+        TABLE_A,
         [0, 1, 0, 0, 0, 0, 0, 0, 0, 1],
     ] {
         assert_eq!(rt; verdict(&table, &[lone(2, 1)], &[], &[]), Ok(()));
@@ -45,9 +46,9 @@ fn the_link_may_fall_short_after_many_rounds(rt: HostRuntime) {
 fn verdict_on_deadlines(first: u32, second: u32) -> Result<(), Decline> {
     verdict(
         &TABLE_A,
-        &guests_a(),
+        &GUESTS_A,
         &[task(20, 2, first), task(40, 3, second)],
-        &operations_a(),
+        &OPERATIONS_A,
     )
 }
 
@@ -128,7 +129,8 @@ fn a_guest_may_fall_short_after_many_periods(rt: HostRuntime) {
     );
 }
 
-// The largest number of guests and tasks on the largest table, with one fixed slot. Eight operations are due after 1,887 slots, of which a server gives 7.
+// The largest number of guests and tasks on the largest table, with one fixed slot.
+// Eight operations are due after 1,887 slots, of which a server gives 7.
 #[test]
 fn sixteen_guests_of_eight_tasks(rt: HostRuntime) {
     let mut table = [0; 1024];

@@ -1,7 +1,8 @@
-// Tests of the rules 3 to 6: servers, windows, tasks and operations.
-use crate::samples::*;
+//! Tests of the rules 3 to 6: servers, windows, tasks and operations.
+use crate::verdicts::*;
 use admission::{Operation, Task};
 use decline::Decline;
+use samples::{GUESTS_A, OPERATIONS_A, TABLE_A, TASKS_A, guest, read, task};
 
 #[test]
 fn a_server_keeps_its_limits(rt: HostRuntime) {
@@ -163,10 +164,10 @@ fn an_operation_keeps_to_the_window(rt: HostRuntime) {
 
 #[test]
 fn operations_are_counted_over_all_guests(rt: HostRuntime) {
-    let mut operations = operations_a();
+    let mut operations = OPERATIONS_A;
     operations[3] = write(7);
     assert_eq!(rt;
-        verdict(&TABLE_A, &guests_a(), &tasks_a(), &operations),
+        verdict(&TABLE_A, &GUESTS_A, &TASKS_A, &operations),
         Err(Decline::OperationRegister {
             guest: 2,
             position: 4,
@@ -174,7 +175,7 @@ fn operations_are_counted_over_all_guests(rt: HostRuntime) {
     );
     operations[1] = write(8);
     assert_eq!(rt;
-        verdict(&TABLE_A, &guests_a(), &tasks_a(), &operations),
+        verdict(&TABLE_A, &GUESTS_A, &TASKS_A, &operations),
         Err(Decline::OperationRegister {
             guest: 1,
             position: 2,

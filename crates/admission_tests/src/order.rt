@@ -1,9 +1,10 @@
-// Tests of setups that break several rules: the lower number comes first, and within a number the first place.
-use crate::samples::*;
+//! Tests of setups that break several rules: the lower number comes first, and within a number the first place.
+use crate::verdicts::*;
 use admission::{Operation, Setup, judge};
 use decline::{Decline, Part};
+use samples::{GUESTS_A, OPERATIONS_A, TABLE_A, guest, read, task};
 
-// The verdict on a setup that has a session, a table and fixed operations, and nothing else. The samples give other parts.
+// The verdict on a setup that has a session, a table and fixed operations, and nothing else.
 fn verdict_without_guests<'a>(
     registers: u32,
     session: u32,
@@ -77,7 +78,7 @@ fn a_server_comes_before_a_window_and_a_window_before_a_task(rt: HostRuntime) {
             &[0],
             &[guest(5, 2, 0, 0, 1), guest(10, 11, 8, 8, 1)],
             &tasks,
-            &operations_a(),
+            &OPERATIONS_A,
         ),
         Err(Decline::ServerLimits { guest: 2 })
     );
@@ -86,12 +87,12 @@ fn a_server_comes_before_a_window_and_a_window_before_a_task(rt: HostRuntime) {
             &[0],
             &[guest(5, 2, 0, 8, 1), guest(10, 3, 7, 8, 1)],
             &tasks,
-            &operations_a(),
+            &OPERATIONS_A,
         ),
         Err(Decline::GuestWindow { guest: 2 })
     );
     assert_eq!(rt;
-        verdict(&[0], &guests_a(), &tasks, writes(5)),
+        verdict(&[0], &GUESTS_A, &tasks, writes(5)),
         Err(Decline::TaskLimits { guest: 1, task: 1 })
     );
 }
@@ -222,18 +223,18 @@ fn a_guest_without_spare_comes_before_one_that_falls_short(rt: HostRuntime) {
     assert_eq!(rt;
         verdict(
             &TABLE_A,
-            &guests_a(),
+            &GUESTS_A,
             &[task(20, 2, 7), task(10, 3, 10)],
-            &operations_a(),
+            &OPERATIONS_A,
         ),
         Err(Decline::GuestSpare { guest: 2 })
     );
     assert_eq!(rt;
         verdict(
             &TABLE_A,
-            &guests_a(),
+            &GUESTS_A,
             &[task(20, 2, 7), task(40, 3, 3)],
-            &operations_a(),
+            &OPERATIONS_A,
         ),
         Err(Decline::GuestDemand {
             guest: 1,

@@ -1,7 +1,8 @@
-// Tests of rule 1, the sizes of a setup, and of rule 2, the bytes of its table.
-use crate::samples::*;
+//! Tests of rule 1, the sizes of a setup, and of rule 2, the bytes of its table.
+use crate::verdicts::*;
 use admission::{Guest, Setup, judge};
 use decline::{Decline, Part};
+use samples::{GUESTS_A, OPERATIONS_A, TABLE_A, guest, read, task};
 
 // The verdict on one guest with register 0 and no task, with every slot free.
 fn verdict_on_counts(registers: u32, session: u32) -> Result<(), Decline> {
@@ -110,23 +111,19 @@ fn a_guest_has_at_most_8_tasks(rt: HostRuntime) {
 #[test]
 fn there_are_as_many_tasks_as_the_guests_count(rt: HostRuntime) {
     let tasks = [task(20, 2, 10), task(40, 3, 20), task(40, 3, 20)];
-    let operations = operations_a();
     assert_eq!(rt;
-        verdict(&TABLE_A, &guests_a(), &tasks[0..2], &operations),
+        verdict(&TABLE_A, &GUESTS_A, &tasks[0..2], &OPERATIONS_A),
         Ok(())
     );
     assert_eq!(rt;
-        verdict(&TABLE_A, &guests_a(), &tasks[0..1], writes(2)),
+        verdict(&TABLE_A, &GUESTS_A, &tasks[0..1], writes(2)),
         limits(Part::Tasks)
     );
     assert_eq!(rt;
-        verdict(&TABLE_A, &guests_a(), &tasks, writes(8)),
+        verdict(&TABLE_A, &GUESTS_A, &tasks, writes(8)),
         limits(Part::Tasks)
     );
-    assert_eq!(rt;
-        verdict(&TABLE_A, &guests_a(), &[], &[]),
-        limits(Part::Tasks)
-    );
+    assert_eq!(rt; verdict(&TABLE_A, &GUESTS_A, &[], &[]), limits(Part::Tasks));
 }
 
 // The verdict on one guest of two tasks with these costs.

@@ -1,7 +1,8 @@
-// Tests of the rules 7 and 9: the spare hundredth of the link and of each budget.
-use crate::samples::*;
-use admission::{Guest, Task};
+//! Tests of the rules 7 and 9: the spare hundredth of the link and of each budget.
+use crate::verdicts::*;
+use admission::{Guest, Task, judge};
 use decline::Decline;
+use samples::{REGISTERS, guest, setup_a_budget_4, task};
 
 #[test]
 fn the_spare_of_the_link_may_be_exactly_a_hundredth(rt: HostRuntime) {
@@ -33,12 +34,7 @@ fn a_table_without_a_free_byte_has_no_spare(rt: HostRuntime) {
 #[test]
 fn a_larger_budget_takes_the_spare_of_the_link(rt: HostRuntime) {
     assert_eq!(rt;
-        verdict(
-            &TABLE_A,
-            &[guest(5, 2, 0, 8, 1), guest(10, 4, 8, 8, 1)],
-            &tasks_a(),
-            &operations_a(),
-        ),
+        judge(&setup_a_budget_4(), REGISTERS),
         Err(Decline::LinkSpare)
     );
 }

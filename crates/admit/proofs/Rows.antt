@@ -1,5 +1,6 @@
 -- What is written, one part more at a time.
-use Rattle.std.proofs.Common.{◌≡◌, ℕ, zero, suc, ◌+◌, ◌-◌, ◌^◌, List, [], ◌∷◌, ◌++◌, ap, sym, ◌∙◌, arith, append-nil, length, decimal, encode_utf8, lit<}
+use Rattle.std.proofs.Common.{◌≡◌, ℕ, zero, suc, ◌+◌, ◌-◌, ◌^◌, List, [], ◌∷◌, ◌++◌, ap, sym}
+use Rattle.std.proofs.Common.{◌∙◌, arith, append-nil, length, decimal, encode_utf8, lit<}
 use Rattle.std.specs.Fmt.{format_spec, styled_decimal, padded_integral, char_count}
 use Rattle.std.specs.List.{flat_map, range_with_len, repeat}
 use Rattle.std.proofs.lemmas.Grind.{flat_map-append}
@@ -14,7 +15,8 @@ range_with_len_suc a (suc n) =
     ap (λ xs. a ∷ xs) (range_with_len_suc (a + 1) n ∙ ap (λ k. range_with_len (a + 1) n ++ k ∷ []) e)
 
 -- the texts of n numbers from a on, and that of the next, which is s, are those of m numbers
-pub texts_more : (f : ℕ → List ℕ) (a n s m : ℕ) → a + n ≡ s → n + 1 ≡ m → flat_map f (range_with_len a n) ++ f s ≡ flat_map f (range_with_len a m)
+pub texts_more : (f : ℕ → List ℕ) (a n s m : ℕ) → a + n ≡ s → n + 1 ≡ m
+    → flat_map f (range_with_len a n) ++ f s ≡ flat_map f (range_with_len a m)
 texts_more f a n s m last more =
     let count : m ≡ suc n = omega arith in
     let before : List ℕ = range_with_len a n in

@@ -1,14 +1,16 @@
 -- A timetable as lines of marks.
-use Rattle.std.specs.Prelude.{ℕ, ◌+◌, ◌-◌, ◌*◌, ◌%◌, min, max, ◌==◌, List, ◌++◌, length, map, fold, slice_range, codes, decimal, encode_utf8, slice_index_or, if◌then◌else◌}
+use Rattle.std.specs.Prelude.{ℕ, ◌+◌, ◌-◌, ◌*◌, ◌%◌, min, max, ◌==◌, List, ◌++◌, length, map, fold}
+use Rattle.std.specs.Prelude.{slice_range, codes, decimal, encode_utf8, slice_index_or, if◌then◌else◌}
 use Rattle.std.specs.List.{flat_map, range_with_len, repeat}
 use Rattle.std.specs.Int.{div_ceil}
-use Rattle.admission.specs.declared.setup.Guest.{Guest}
-use Rattle.admission.specs.Plan.{Plan, guest_at}
+use Rattle.setups.specs.declared.setup.Guest.{Guest}
+use Rattle.setups.specs.Plan.{Plan, guest_at}
 use Rattle.schedule.specs.declared.turn.Turn.{Turn}
 use Rattle.schedule.specs.declared.turn.Turn.TheVariants.{Unassigned, Fixed, Granted}
 use Rattle.schedule.specs.Slot.{byte_at}
 
--- the mark of a table byte: a dot where it is free, A to Z and then a to f of fixed operations 1 to 32, and a question mark past them
+-- the mark of a table byte: a dot where it is free, A to Z and then a to f of fixed operations 1 to 32,
+-- and a question mark past them
 abbrev pub byte_mark : ℕ → ℕ
 byte_mark p = slice_index_or (codes ".ABCDEFGHIJKLMNOPQRSTUVWXYZabcdef") p 63
 
@@ -48,7 +50,8 @@ wide_decimal n = decimal n ++ repeat (4 - length (decimal n)) (codes " ")
 
 -- the line of the guest at place i of a list: its number, counted from 1, and its row
 abbrev pub guest_line : List Guest → ℕ → ℕ → ℕ → List ℕ
-guest_line gs a n i = codes "  guest " ++ (wide_decimal (i + 1) ++ (period_row (guest_at gs i).period a n ++ codes "\n"))
+guest_line gs a n i =
+    codes "  guest " ++ (wide_decimal (i + 1) ++ (period_row (guest_at gs i).period a n ++ codes "\n"))
 
 -- one line for each guest
 abbrev pub guest_lines : List Guest → ℕ → ℕ → List ℕ
@@ -57,7 +60,8 @@ guest_lines gs a n = flat_map (guest_line gs a n) (range_with_len 0 (length gs))
 -- the lines of some turns, which are those of the n slots from slot a on: which slots they are, then the rows
 abbrev pub block_text : List ℕ → List Guest → List Turn → ℕ → ℕ → List ℕ
 block_text table gs turns a n =
-    codes "  slots " ++ (decimal a ++ (codes " to " ++ (decimal (a + n - 1) ++ (codes "\n  table     " ++ (table_row table a n
+    codes "  slots "
+    ++ (decimal a ++ (codes " to " ++ (decimal (a + n - 1) ++ (codes "\n  table     " ++ (table_row table a n
     ++ (codes "\n  turns     " ++ (turn_row turns ++ (codes "\n" ++ guest_lines gs a n))))))))
 
 -- the lines of block b of a drawing, of the 80 slots from 80 b on or, at the end, of those that are left

@@ -1,7 +1,8 @@
-// The drawing of a timetable: lines of marks, one for each slot.
+//! The drawing of a timetable: lines of marks, one for each slot.
 ghost use Rattle.std.specs.Prelude.{◌≡◌, ◌+◌, ◌-◌, ◌<◌, ◌≤◌, length, slice_index_or, Some};
-ghost use Rattle.admit.specs.Drawing.{byte_mark, guest_mark, turn_mark, period_mark, table_row, turn_row, period_row, guest_lines, block_text, drawing_text, covered_slots};
-ghost use Rattle.admission.specs.Plan.{plan_of};
+ghost use Rattle.admit.specs.Drawing.{byte_mark, guest_mark, turn_mark, period_mark, table_row, turn_row};
+ghost use Rattle.admit.specs.Drawing.{period_row, guest_lines, block_text, drawing_text, covered_slots};
+ghost use Rattle.setups.specs.Plan.{plan_of};
 
 use admission::{Guest, Setup};
 use schedule::{Turn, timetable};
@@ -165,7 +166,8 @@ struct Block<'a> {
 }
 
 impl fmt::Display for Block<'_> {
-    ghost output = { λ b. Some (block_text b.table.now b.guests.now b.turns.now b.slots.first (b.slots.end - b.slots.first)) };
+    ghost output = { λ b.
+        Some (block_text b.table.now b.guests.now b.turns.now b.slots.first (b.slots.end - b.slots.first)) };
 
     fn fmt<W: fmt::Write>(&self, f: &mut fmt::Formatter<W>) -> fmt::Result {
         let slots = self.slots;

@@ -1,9 +1,10 @@
-// Prints the verdicts on setup A, on variants of it, and on guests that have no task, and the drawing of each timetable.
+//! Prints the verdicts on setup A, on variants of it, and on guests that have no task,
+//! and the drawing of each timetable.
 #![tactic(auto)]
 
 mod drawing;
-mod samples;
 mod verdicts;
+mod without_tasks;
 
 use std::alloc::Global;
 use std::io::{self, BufWriter, Write};

@@ -1,7 +1,13 @@
-// The verdicts, one line each, and the drawings.
+//! The verdicts, one line each, and the drawings.
 use crate::drawing::print_drawing;
-use crate::samples::*;
+use crate::without_tasks::{
+    LONG_SESSION, TABLE_24, setup_without_tasks, sparse_table, ten_guests, three_guests,
+};
 use admission::{Setup, Verdict, VerdictLine, judge};
+use samples::{
+    REGISTERS, period_100, period_101, read, setup_a, setup_a_budget_4, setup_a_due_7,
+    setup_a_due_8, two_fixed,
+};
 use std::io::{self, Write};
 
 // What the marks of a drawing mean.
@@ -20,41 +26,38 @@ fn print_verdict<W: Write>(what: &str, setup: &Setup<'_>, out: &mut W) -> io::Re
 
 // Prints the verdicts on setup A and on variants of it.
 fn print_variants<W: Write>(out: &mut W) -> io::Result<()> {
-    for (what, deadline, budget) in [
-        ("setup A", 10, 3),
-        ("setup A with deadline 8 for guest 1", 8, 3),
-        ("setup A with deadline 7 for guest 1", 7, 3),
-        ("setup A with budget 4 for guest 2", 10, 4),
+    for (what, setup) in [
+        ("setup A", setup_a()),
+        ("setup A with deadline 8 for guest 1", setup_a_due_8()),
+        ("setup A with deadline 7 for guest 1", setup_a_due_7()),
+        ("setup A with budget 4 for guest 2", setup_a_budget_4()),
     ] {
-        print_verdict(what, &setup_a(&guests_a(budget), &tasks_a(deadline)), out)?;
+        print_verdict(what, &setup, out)?;
     }
     Ok(())
 }
 
 // Prints the verdicts on setups of one guest that has no task.
 fn print_lone_guests<W: Write>(out: &mut W) -> io::Result<()> {
-    for (what, table, period) in [
+    for (what, setup) in [
         (
             "table 1 1 0 0 0 0 0 0 0 0 and one guest with budget 1 in period 2",
-            ADJACENT.as_slice(),
-            2,
+            two_fixed(),
         ),
         (
             "table 0 and one guest with budget 1 in period 100",
-            FREE.as_slice(),
-            100,
+            period_100(),
         ),
         (
             "table 0 and one guest with budget 1 in period 101",
-            FREE.as_slice(),
-            101,
+            period_101(),
         ),
     ] {
-        print_verdict(
-            what,
-            &setup_without_tasks(table, &ONE_FIXED, &lone_guest(period)),
-            out,
-        )?;
+        let longer = Setup {
+            session: LONG_SESSION,
+            ..setup
+        };
+        print_verdict(what, &longer, out)?;
     }
     Ok(())
 }
@@ -63,12 +66,12 @@ fn print_lone_guests<W: Write>(out: &mut W) -> io::Result<()> {
 fn print_shared<W: Write>(out: &mut W) -> io::Result<()> {
     print_verdict(
         "a table of 24 slots with two fixed operations, and guests with periods 5, 7 and 11",
-        &setup_without_tasks(&TABLE_24, &TWO_FIXED, &three_guests()),
+        &setup_without_tasks(&TABLE_24, &[read(0); 2], &three_guests()),
         out,
     )?;
     print_verdict(
         "a table of 84 slots with 28 fixed operations, and ten guests",
-        &setup_without_tasks(&sparse_table(), &MANY_FIXED, &ten_guests()),
+        &setup_without_tasks(&sparse_table(), &[read(0); 28], &ten_guests()),
         out,
     )
 }

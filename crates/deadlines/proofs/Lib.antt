@@ -1,7 +1,8 @@
 pub mod Sums
-pub mod Potential
+pub mod BusyPeriod
 pub mod Service
+pub mod OneAtATime
 pub mod Spacing
-pub mod Streams
+pub mod Lateness
 pub mod Supply
 pub mod Servers

@@ -1,9 +1,14 @@
 -- Each refusal's three numbers, its text and its sentence.
 use Rattle.std.specs.Prelude.{◌≡◌, ℕ, cond, List, ◌++◌, Ok, Err, codes, decimal, Result, ◌==◌}
 use Rattle.decline.specs.declared.Part.{Part}
-use Rattle.decline.specs.declared.Part.TheVariants.{Registers, Session, Table, FixedOperations, Guests, Tasks, Operations}
+use Rattle.decline.specs.declared.Part.TheVariants.{Registers, Session, Table, FixedOperations}
+use Rattle.decline.specs.declared.Part.TheVariants.{Guests, Tasks, Operations}
 use Rattle.decline.specs.declared.Decline.{Decline}
-use Rattle.decline.specs.declared.Decline.TheVariants.{SetupLimits, TableByte, ServerLimits, GuestWindow, TaskLimits, OperationRegister, LinkSpare, LinkDemand, GuestSpare, GuestDemand, AlreadyLoaded, NotLoaded, NotFound, JobSize, JobTooSoon, JobPending, NoJob, SessionEnd, BlockSize, BlockSums, BlockRule}
+use Rattle.decline.specs.declared.Decline.TheVariants.{SetupLimits, TableByte, ServerLimits, GuestWindow}
+use Rattle.decline.specs.declared.Decline.TheVariants.{TaskLimits, OperationRegister, LinkSpare, LinkDemand}
+use Rattle.decline.specs.declared.Decline.TheVariants.{GuestSpare, GuestDemand, AlreadyLoaded, NotLoaded}
+use Rattle.decline.specs.declared.Decline.TheVariants.{NotFound, JobSize, JobTooSoon, JobPending, NoJob}
+use Rattle.decline.specs.declared.Decline.TheVariants.{SessionEnd, BlockSize, BlockSums, BlockRule}
 use Rattle.decline.specs.declared.DeclineNumbers.{DeclineNumbers}
 
 -- the number of each part: 0 for the register count of the device, then the six parts of a setup
@@ -52,7 +57,9 @@ SaysWhichRefusal = (d e : Decline) → numbers_of d ≡ numbers_of e → d ≡ e
 -- the text of a refusal: `refused` and the three numbers
 abbrev pub refusal_text : Decline → List ℕ
 refusal_text d =
-    codes "refused " ++ (decimal (numbers_of d).number ++ (codes " " ++ (decimal (numbers_of d).guest ++ (codes " " ++ decimal (numbers_of d).place))))
+    codes "refused "
+    ++ (decimal (numbers_of d).number
+    ++ (codes " " ++ (decimal (numbers_of d).guest ++ (codes " " ++ decimal (numbers_of d).place))))
 
 -- the sentence of each part that breaks a limit or disagrees
 abbrev pub part_text : Part → List ℕ
@@ -68,27 +75,46 @@ part_text Operations = codes "there are not as many operations as the tasks cost
 abbrev pub sentence_text : Decline → List ℕ
 sentence_text (SetupLimits part) = part_text part
 sentence_text (TableByte b) = codes "byte " ++ (decimal b ++ codes " of the slot table names no fixed operation")
-sentence_text (ServerLimits g) = codes "the budget of guest " ++ (decimal g ++ codes " is not 1 to its period, or its period is above 1024")
-sentence_text (GuestWindow g) = codes "the registers of guest " ++ (decimal g ++ codes " are none, go past the device, or meet those of an earlier guest")
-sentence_text (TaskLimits g t) = codes "task " ++ (decimal t ++ (codes " of guest " ++ (decimal g ++ codes " breaks 1 <= cost <= deadline <= separation <= 16384 or cost <= 16")))
+sentence_text (ServerLimits g) =
+    codes "the budget of guest " ++ (decimal g ++ codes " is not 1 to its period, or its period is above 1024")
+sentence_text (GuestWindow g) =
+    codes "the registers of guest "
+    ++ (decimal g ++ codes " are none, go past the device, or meet those of an earlier guest")
+sentence_text (TaskLimits g t) =
+    codes "task "
+    ++ (decimal t
+    ++ (codes " of guest "
+    ++ (decimal g ++ codes " breaks 1 <= cost <= deadline <= separation <= 16384 or cost <= 16")))
 sentence_text (OperationRegister g p) =
     cond (g == 0) (codes "fixed operation " ++ (decimal p ++ codes " uses a register that the device does not have"))
     (codes "operation " ++ (decimal p ++ (codes " uses a register outside those of guest " ++ decimal g)))
 sentence_text LinkSpare = codes "the servers do not leave a hundredth of the link to spare in the free slots"
-sentence_text (LinkDemand w) = codes "in " ++ (decimal w ++ codes " successive slots the servers may need more than the slot table leaves free")
-sentence_text (GuestSpare g) = codes "guest " ++ (decimal g ++ codes " does not have a hundredth of the link to spare in its budget")
-sentence_text (GuestDemand g w) = codes "in " ++ (decimal w ++ (codes " successive slots the tasks of guest " ++ (decimal g ++ codes " may need more than its server supplies")))
+sentence_text (LinkDemand w) =
+    codes "in " ++ (decimal w ++ codes " successive slots the servers may need more than the slot table leaves free")
+sentence_text (GuestSpare g) =
+    codes "guest " ++ (decimal g ++ codes " does not have a hundredth of the link to spare in its budget")
+sentence_text (GuestDemand g w) =
+    codes "in "
+    ++ (decimal w
+    ++ (codes " successive slots the tasks of guest "
+    ++ (decimal g ++ codes " may need more than its server supplies")))
 sentence_text AlreadyLoaded = codes "a setup is loaded already"
 sentence_text NotLoaded = codes "no setup is loaded"
 sentence_text (NotFound g p) =
     cond (g == 0) (codes "there is no guest 0, or the list has no position " ++ decimal p)
     (codes "there is no guest " ++ (decimal g ++ (codes ", or it has no task " ++ decimal p)))
-sentence_text (JobSize g c) = codes "a job of this task of guest " ++ (decimal g ++ (codes " is of 1 to " ++ (decimal c ++ codes " operations")))
-sentence_text (JobTooSoon g s) = codes "the next job of this task of guest " ++ (decimal g ++ (codes " may start at slot " ++ decimal s))
-sentence_text (JobPending g t) = codes "the earlier job of task " ++ (decimal t ++ (codes " of guest " ++ (decimal g ++ codes " is pending")))
-sentence_text (NoJob g t) = codes "task " ++ (decimal t ++ (codes " of guest " ++ (decimal g ++ codes " has no job to withdraw")))
+sentence_text (JobSize g c) =
+    codes "a job of this task of guest " ++ (decimal g ++ (codes " is of 1 to " ++ (decimal c ++ codes " operations")))
+sentence_text (JobTooSoon g s) =
+    codes "the next job of this task of guest " ++ (decimal g ++ (codes " may start at slot " ++ decimal s))
+sentence_text (JobPending g t) =
+    codes "the earlier job of task " ++ (decimal t ++ (codes " of guest " ++ (decimal g ++ codes " is pending")))
+sentence_text (NoJob g t) =
+    codes "task " ++ (decimal t ++ (codes " of guest " ++ (decimal g ++ codes " has no job to withdraw")))
 sentence_text SessionEnd = codes "all slots of the session have passed"
-sentence_text BlockSize = codes "the block is not of 512 bytes, or the entries are not 1 to 31, or the places are not 31"
+sentence_text BlockSize =
+    codes "the block is not of 512 bytes, or the entries are not 1 to 31, or the places are not 31"
 sentence_text BlockSums = codes "the sums at the end of the block are not those of its bytes"
 sentence_text (BlockRule p) =
-    cond (p == 0) (codes "the header of the block breaks a rule") (codes "entry place " ++ (decimal p ++ codes " of the block breaks a rule"))
+    cond (p == 0) (codes "the header of the block breaks a rule")
+    (codes "entry place " ++ (decimal p ++ codes " of the block breaks a rule"))

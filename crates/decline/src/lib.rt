@@ -1,40 +1,43 @@
-// The refusals of the product: one enum, and the three numbers and the sentence of each refusal.
+//! The refusals of the product: one enum, and the three numbers and the sentence of each refusal.
 #![tactic(auto)]
 
 ghost use Rattle.std.specs.Prelude.{◌≡◌, Some};
-ghost use Rattle.decline.specs.Refusals.{numbers_of, part_number, part_text, refusal_text, sentence_text, SaysWhichRefusal};
+ghost use Rattle.decline.specs.Refusals.{numbers_of, part_number, part_text};
+ghost use Rattle.decline.specs.Refusals.{refusal_text, sentence_text, SaysWhichRefusal};
 
 use std::error::Error;
 use std::fmt;
 
-// What a limit of a setup is about: the register count of the device, or one of the setup's six parts.
+/// What a limit of a setup is about: the register count of the device, or one of the setup's six parts.
 #[derive(Clone, Copy, PartialEq, Eq, Debug)]
 pub enum Part {
-    // How many registers the device has.
+    /// How many registers the device has.
     Registers = 0,
-    // How many slots the session has.
+    /// How many slots the session has.
     Session = 1,
-    // The slot table.
+    /// The slot table.
     Table = 2,
-    // The fixed operations.
+    /// The fixed operations.
     FixedOperations = 3,
-    // The guests.
+    /// The guests.
     Guests = 4,
-    // The tasks of all guests.
+    /// The tasks of all guests.
     Tasks = 5,
-    // The operations of all tasks.
+    /// The operations of all tasks.
     Operations = 6,
 }
 
 impl Part {
-    // The number of this part, from 0, in the order of the variants. It is asked for by name: as a conversion it would not say which number it is.
+    /// The number of this part, from 0, in the order of the variants. It is asked for by name:
+    /// as a conversion it would not say which number it is.
     pub fn number(&self) -> u64
         ensures { result ≡ part_number self.now }
     {
         *self as u64
     }
 
-    // What is wrong with this part, as a sentence for a person. No `Display`: that would be read as the text of a part, and not of its fault.
+    // What is wrong with this part, as a sentence for a person. No `Display`: that would be read as the text of a part,
+    // and not of its fault.
     fn sentence(&self) -> &'static str
         ensures { result.now ≡ part_text self.now }
     {
@@ -50,67 +53,75 @@ impl Part {
     }
 }
 
-// Why a call declined. A call that declines changes nothing.
+/// Why a call declined. A call that declines changes nothing.
 #[derive(Clone, Copy, PartialEq, Eq, Debug)]
 pub enum Decline {
-    // The register count of the device or a part of the setup breaks a limit, or lists disagree.
+    /// The register count of the device or a part of the setup breaks a limit, or lists disagree.
     SetupLimits { part: Part },
-    // A byte of the slot table, counted from 0, names a fixed operation that there is not.
+    /// A byte of the slot table, counted from 0, names a fixed operation that there is not.
     TableByte { byte: u64 },
-    // The budget of a guest, counted from 1, is not 1 to its period, or its period is above 1024.
+    /// The budget of a guest, counted from 1, is not 1 to its period, or its period is above 1024.
     ServerLimits { guest: u32 },
-    // The registers of a guest, counted from 1, are none, go past the device, or meet those of an earlier guest.
+    /// The registers of a guest, counted from 1, are none, go past the device, or meet those of an earlier guest.
     GuestWindow { guest: u32 },
-    // A task, counted from 1 within its guest, breaks 1 <= cost <= deadline <= separation <= 16384 or cost <= 16.
+    /// A task, counted from 1 within its guest, breaks 1 <= cost <= deadline <= separation <= 16384 or cost <= 16.
     TaskLimits { guest: u32, task: u64 },
-    // An operation uses a register outside those of its guest; its position counts from 1 among the operations of all guests.
-    // Guest 0 stands for a fixed operation that uses a register past the device; its position counts from 1 among the fixed ones. A variant of its own
-    // would have the same number, and what says which refusal it is would have to know that no guest is 0.
+    /// An operation uses a register outside those of its guest; its position counts from 1 among the operations of all
+    /// guests. Guest 0 stands for a fixed operation that uses a register past the device; its position counts from 1
+    /// among the fixed ones. A variant of its own would have the same number, and what says which refusal it is would
+    /// have to know that no guest is 0.
     OperationRegister { guest: u32, position: u64 },
-    // The servers do not leave a hundredth of the link to spare in the free slots.
+    /// The servers do not leave a hundredth of the link to spare in the free slots.
     LinkSpare,
-    // The servers may need more slots than the table leaves free; the window is the least number of successive slots where they may.
+    /// The servers may need more slots than the table leaves free; the window is the least number
+    /// of successive slots where they may.
     LinkDemand { window: u64 },
-    // A guest, counted from 1, does not have a hundredth of the link to spare in its budget.
+    /// A guest, counted from 1, does not have a hundredth of the link to spare in its budget.
     GuestSpare { guest: u32 },
-    // The tasks of a guest, counted from 1, may need more slots than its server supplies; the window is the least number of successive
-    // slots where they may.
+    /// The tasks of a guest, counted from 1, may need more slots than its server supplies; the window is the least
+    /// number of successive slots where they may.
     GuestDemand { guest: u32, window: u64 },
-    // A setup is loaded already.
+    /// A setup is loaded already.
     AlreadyLoaded,
-    // No setup is loaded.
+    /// No setup is loaded.
     NotLoaded,
-    // There is no such guest, or it has no such task; both count from 1, and the task is 0 where only the guest was asked for.
-    // Guest 0 stands for a list that has no such position, counted from 0, too: as with guest 0 above, both have one number.
+    /// There is no such guest, or it has no such task; both count from 1, and the task is 0 where only the guest was
+    /// asked for. Guest 0 stands for a list that has no such position, counted from 0, too: as with guest 0 above, both
+    /// have one number.
     NotFound { guest: u32, place: u64 },
-    // A job of a guest is not of 1 operation to as many as its task costs.
+    /// A job of a guest is not of 1 operation to as many as its task costs.
     JobSize { guest: u32, cost: u64 },
-    // A job of a guest comes too soon after the last of its task; the slot is the first at which it may start.
+    /// A job of a guest comes too soon after the last of its task; the slot is the first at which it may start.
     JobTooSoon { guest: u32, slot: u64 },
-    // The earlier job of a task is still pending.
+    /// The earlier job of a task is still pending.
     JobPending { guest: u32, task: u64 },
-    // A task has no job to withdraw.
+    /// A task has no job to withdraw.
     NoJob { guest: u32, task: u64 },
-    // All slots of the session have passed.
+    /// All slots of the session have passed.
     SessionEnd,
-    // A journal block is not of 512 bytes, or there are not 1 to 31 entries to write, or not 31 places to read into.
+    /// A journal block is not of 512 bytes, or there are not 1 to 31 entries to write, or not 31 places to read into.
     BlockSize,
-    // The two sums at the end of a journal block are not those of its bytes.
+    /// The two sums at the end of a journal block are not those of its bytes.
     BlockSums,
-    // A journal block breaks a rule in its header, place 0, or in one of its entry places, counted from 1. As with guest 0 above, both have one number.
+    /// A journal block breaks a rule in its header, place 0, or in one of its entry places, counted from 1.
+    /// As with guest 0 above, both have one number.
     BlockRule { place: u64 },
 }
 
-// A refusal as three numbers: its own, the guest and the place; 0 where none is named.
+/// A refusal as three numbers: its own, the guest and the place; 0 where none is named.
 #[derive(Clone, Copy, PartialEq, Eq, Debug)]
 pub struct DeclineNumbers {
+    /// Which refusal it is.
     pub number: u32,
+    /// The guest that it names, from 1.
     pub guest: u32,
+    /// The place that it names, by the refusal.
     pub place: u64,
 }
 
 impl Decline {
-    // The three numbers of this refusal; no other refusal has the same three. They are asked for by name, as the number of a part is.
+    /// The three numbers of this refusal; no other refusal has the same three. They are asked for by name,
+    /// as the number of a part is.
     pub fn numbers(&self) -> DeclineNumbers
         ensures value { result ≡ numbers_of self.now }
         ensures distinct { SaysWhichRefusal }
@@ -145,7 +156,7 @@ impl Decline {
         }
     }
 
-    // The cause as a sentence for a person, a text of its own beside that of the refusal.
+    /// The cause as a sentence for a person, a text of its own beside that of the refusal.
     pub fn sentence(&self) -> Sentence
         ensures { result.decline ≡ self.now }
     {
@@ -153,7 +164,7 @@ impl Decline {
     }
 }
 
-// The cause of a refusal as a sentence for a person.
+/// The cause of a refusal as a sentence for a person.
 #[derive(Clone, Copy, PartialEq, Eq, Debug)]
 pub struct Sentence {
     decline: Decline,

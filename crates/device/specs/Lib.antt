@@ -1,3 +1,4 @@
+pub mod Alike
 pub mod Cap
 pub mod Meaning
 pub mod Pair

@@ -1,4 +1,4 @@
-// A cap: a layer that keeps values of some registers low.
+//! A cap: a layer that keeps values of some registers low.
 ghost use Rattle.std.specs.Prelude.{◌≡◌};
 ghost use Rattle.std.specs.Range.{range_inclusive_start, range_inclusive_end};
 ghost use Rattle.device.specs.Cap.{cap_over};
@@ -6,7 +6,7 @@ ghost use Rattle.device.specs.Cap.{cap_over};
 use crate::{Device, Refused};
 use std::ops::RangeInclusive;
 
-// The device below, except that it refuses to write more than `highest` to a register from `first` to `last`.
+/// The device below, except that it refuses to write more than `highest` to a register from `first` to `last`.
 #[derive(Debug, Drop)]
 pub struct Cap<D> {
     below: D,
@@ -16,9 +16,10 @@ pub struct Cap<D> {
 }
 
 impl<D: Device> Cap<D> {
-    // A cap over a device. A range whose first register is above its last one has no register.
+    /// A cap over a device. A range whose first register is above its last one has no register.
     pub fn new(below: D, registers: RangeInclusive<u8>, highest: u16) -> Cap<D>
-        ensures { ⟦<Cap<D> as Device>⟧.meaning result ≡ cap_over (range_inclusive_start registers) (range_inclusive_end registers) highest (D.meaning below) }
+        ensures { ⟦<Cap<D> as Device>⟧.meaning result
+            ≡ cap_over (range_inclusive_start registers) (range_inclusive_end registers) highest (D.meaning below) }
     {
         let (first, last) = registers.into_inner();
         Cap {
@@ -29,7 +30,7 @@ impl<D: Device> Cap<D> {
         }
     }
 
-    // The device below, to look at.
+    /// The device below, to look at.
     pub fn below(&self) -> &D
         ensures { result.now ≡ self.now.below }
     {

@@ -1,13 +1,13 @@
-// A pair: a layer that puts the registers of two devices in a row.
+//! A pair: a layer that puts the registers of two devices in a row.
 ghost use Rattle.std.specs.Prelude.{◌≡◌};
 ghost use Rattle.device.specs.Pair.{pair_of};
 
 use crate::{Device, Refused};
 
-// How many registers a number of 8 bits can name.
+/// How many registers a number of 8 bits can name.
 const MOST_REGISTERS: u32 = 256;
 
-// Two devices as one: the registers of the first, then those of the second, as far as there are numbers for them.
+/// Two devices as one: the registers of the first, then those of the second, as far as there are numbers for them.
 #[derive(Debug, Drop)]
 pub struct Pair<A, B> {
     first: A,
@@ -15,21 +15,21 @@ pub struct Pair<A, B> {
 }
 
 impl<A: Device, B: Device> Pair<A, B> {
-    // Both devices, the first one's registers first.
+    /// Both devices, the first one's registers first.
     pub fn new(first: A, second: B) -> Pair<A, B>
         ensures { ⟦<Pair<A, B> as Device>⟧.meaning result ≡ pair_of (A.meaning first) (B.meaning second) }
     {
         Pair { first, second }
     }
 
-    // The device whose registers come first, to look at.
+    /// The device whose registers come first, to look at.
     pub fn first(&self) -> &A
         ensures { result.now ≡ self.now.first }
     {
         &self.first
     }
 
-    // The device whose registers come after them, to look at.
+    /// The device whose registers come after them, to look at.
     pub fn second(&self) -> &B
         ensures { result.now ≡ self.now.second }
     {
@@ -49,7 +49,7 @@ impl<A: Device, B: Device> Device for Pair<A, B> {
         both.min(MOST_REGISTERS)
     }
 
-    #[tactic(auto, using(crate::proofs::Pairs::accepts_first, crate::proofs::Pairs::accepts_second, crate::proofs::Pairs::writes_first, crate::proofs::Pairs::writes_second))]
+    #[tactic(auto, using(crate::proofs::Pairs::writes))]
     fn write(&mut self, register: u8, value: u16) -> Result<(), Refused> {
         match u32::from(register).checked_sub(self.first.register_count()) {
             None => self.first.write(register, value),
@@ -57,7 +57,7 @@ impl<A: Device, B: Device> Device for Pair<A, B> {
         }
     }
 
-    #[tactic(auto, using(crate::proofs::Pairs::reads_first, crate::proofs::Pairs::reads_second))]
+    #[tactic(auto, using(crate::proofs::Pairs::reads))]
     fn read(&mut self, register: u8) -> Result<u16, Refused> {
         match u32::from(register).checked_sub(self.first.register_count()) {
             None => self.first.read(register),

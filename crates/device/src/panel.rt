@@ -1,30 +1,30 @@
-// The lamp panel.
+//! The lamp panel.
 ghost use Rattle.std.specs.Prelude.{◌≡◌};
 ghost use Rattle.device.specs.Panel.{panel, panel_at_start};
 
 use crate::{Device, Refused};
 
-// How many lamps there are.
+/// How many lamps there are.
 const LAMPS: usize = 64;
 
-// The highest level of a lamp.
+/// The highest level of a lamp.
 const HIGHEST_LEVEL: u16 = 4095;
 
-// 64 lamps, each a register of its own, with a level of 0 to 4,095.
+/// 64 lamps, each a register of its own, with a level of 0 to 4,095.
 #[derive(Debug, Drop)]
 pub struct LampPanel {
     levels: [u16; LAMPS],
 }
 
 impl LampPanel {
-    // A panel with all lamps at 0.
+    /// A panel with all lamps at 0.
     pub fn new() -> LampPanel
         ensures { ⟦<LampPanel as Device>⟧.meaning result ≡ panel_at_start }
     {
         LampPanel { levels: [0; LAMPS] }
     }
 
-    // The levels of all lamps, to look at.
+    /// The levels of all lamps, to look at.
     pub fn levels(&self) -> &[u16; LAMPS]
         ensures { result.now ≡ (⟦<LampPanel as Device>⟧.meaning self.now).contents }
     {

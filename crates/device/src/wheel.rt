@@ -1,13 +1,14 @@
-// The filter wheel.
+//! The filter wheel.
 ghost use Rattle.std.specs.Prelude.{◌≡◌, ◌≤◌, ◌%◌, ◌/◌, slice_get, Some};
 ghost use Rattle.device.specs.Wheel.{wheel, wheel_at_start};
 
 use crate::{Device, Refused};
 
-// How many steps the motor turns from one filter to the next.
+/// How many steps the motor turns from one filter to the next.
 const STEPS: u16 = 200;
 
-// A wheel of 12 filters with a shutter. Register 0 is the filter, 0 to 11, which is held as the steps of the motor. Register 1 is the shutter, 0 or 1.
+/// A wheel of 12 filters with a shutter. Register 0 is the filter, 0 to 11, which is held as the steps of the motor.
+/// Register 1 is the shutter, 0 or 1.
 #[derive(Debug, Drop)]
 pub struct FilterWheel {
     steps: u16,
@@ -21,7 +22,7 @@ pub struct FilterWheel {
 }
 
 impl FilterWheel {
-    // A wheel at filter 0, with its shutter at 0.
+    /// A wheel at filter 0, with its shutter at 0.
     pub fn new() -> FilterWheel
         ensures { ⟦<FilterWheel as Device>⟧.meaning result ≡ wheel_at_start }
     {
@@ -31,14 +32,14 @@ impl FilterWheel {
         }
     }
 
-    // The filter, to look at.
+    /// The filter, to look at.
     pub fn filter(&self) -> u16
         ensures { slice_get (⟦<FilterWheel as Device>⟧.meaning self.now).contents 0 ≡ Some result }
     {
         self.steps / STEPS
     }
 
-    // The shutter, to look at.
+    /// The shutter, to look at.
     pub fn shutter(&self) -> u16
         ensures { slice_get (⟦<FilterWheel as Device>⟧.meaning self.now).contents 1 ≡ Some result }
     {

@@ -1,4 +1,4 @@
-// Tests of caps and pairs, and of piles of both.
+//! Tests of caps and pairs, and of piles of both.
 use crate::any_device::{bench, write_and_read};
 use crate::asserts::{accepts, refuses};
 use crate::strangers::{Blinds, Seal};

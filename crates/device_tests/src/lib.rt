@@ -1,4 +1,5 @@
-// Tests of devices: each at its limits, piles of layers, devices of a stranger, and code over any device.
+//! Tests of devices: each at its limits, piles of layers, lent devices, devices of a stranger, and code over any
+//! device.
 #![tactic(auto)]
 
 pub mod any_device;
@@ -6,6 +7,7 @@ pub mod any_device;
 mod asserts;
 #[cfg(test)]
 mod layers;
+pub mod lent;
 #[cfg(test)]
 mod panel_and_wheel;
 pub mod strangers;

@@ -1,4 +1,4 @@
-// Tests of the lamp panel and the filter wheel.
+//! Tests of the lamp panel and the filter wheel.
 use crate::asserts::{accepts, refuses};
 use device::{Device, FilterWheel, LampPanel, Refused};
 

@@ -1,11 +1,12 @@
-// Devices that the library does not know.
+//! Devices that the library does not know.
 ghost use Rattle.std.specs.Prelude.{◌≡◌, false, ◌∷◌, [], replicate, take};
 ghost use Rattle.device.specs.Meaning.{plain_device};
 ghost use Rattle.device_tests.specs.Blinds.{blinds};
 
 use device::{Device, Refused};
 
-// Up to 300 blinds, each a register of its own with an even height. They count how often they are asked, which is no part of what they mean.
+/// Up to 300 blinds, each a register of its own with an even height. They count how often they are asked, which is no
+/// part of what they mean.
 #[derive(Debug, Drop)]
 pub struct Blinds {
     heights: [u16; 300],
@@ -14,7 +15,7 @@ pub struct Blinds {
 }
 
 impl Blinds {
-    // So many blinds, at most 300, all down.
+    /// So many blinds, at most 300, all down.
     pub fn new(count: u16) -> Blinds
         ensures { ⟦<Blinds as Device>⟧.meaning result ≡ blinds (take count (replicate 300 0)) }
     {
@@ -55,7 +56,7 @@ impl Device for Blinds {
     }
 }
 
-// One register that never changes: a device may refuse every write.
+/// One register that never changes: a device may refuse every write.
 #[derive(Debug, Drop)]
 pub struct Seal;
 

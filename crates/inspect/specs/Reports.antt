@@ -24,13 +24,19 @@ abbrev pub listed : Result Heading Decline → List Entry → List Entry
 listed (Ok h) places = take h.count places
 listed (Err d) places = []
 
--- a block that reads well: its number and count, and its entries; one that is refused: where it begins, the refusal and the sentence
+-- a block that reads well: its number and count, and its entries; one that is refused: where it begins,
+-- the refusal and the sentence
 abbrev pub report_text : ℕ → Result Heading Decline → List Entry → List ℕ
-report_text at (Ok h) es = codes "block " ++ (decimal h.number ++ (codes ": " ++ (decimal h.count ++ (codes " entries\n" ++ entry_lines es))))
-report_text at (Err d) es = codes "block at byte " ++ (decimal at ++ (codes ": " ++ (refusal_text d ++ (codes ": " ++ (sentence_text d ++ codes "\n")))))
+report_text at (Ok h) es =
+    codes "block " ++ (decimal h.number ++ (codes ": " ++ (decimal h.count ++ (codes " entries\n" ++ entry_lines es))))
+report_text at (Err d) es =
+    codes "block at byte "
+    ++ (decimal at ++ (codes ": " ++ (refusal_text d ++ (codes ": " ++ (sentence_text d ++ codes "\n")))))
 
--- the report of a block after others that were counted, and the counts with it: where it begins, what reading it answers, and its entries
-pub record Reported (before : Tally) (block : List ℕ) (places : List Entry) (report : BlockReport) (after : Tally) : Type 0 where
+-- the report of a block after others that were counted, and the counts with it: where it begins,
+-- what reading it answers, and its entries
+pub record Reported (before : Tally) (block : List ℕ) (places : List Entry) (report : BlockReport)
+    (after : Tally) : Type 0 where
   pub at : report.at ≡ 512 * before.blocks
   pub answer : by_numbers report.answer ≡ read_answer block places
   pub entries : report.entries.now ≡ listed report.answer (places_after block places)

@@ -1,11 +1,14 @@
 -- What is counted of a journal.
-use Rattle.std.specs.Prelude.{◌≡◌, ℕ, ◌+◌, ◌*◌, ◌≤◌, ◌⊎◌, cond, ◌&&◌, List, ◌++◌, Some, None, Ok, Err, codes, decimal, Option, Result, nat_lt}
+use Rattle.std.specs.Prelude.{◌≡◌, ℕ, ◌+◌, ◌*◌, ◌≤◌, ◌⊎◌, cond, ◌&&◌, List, ◌++◌, Some}
+use Rattle.std.specs.Prelude.{None, Ok, Err, codes, decimal, Option, Result, nat_lt}
 use Rattle.journal.specs.declared.blocks.Heading.{Heading}
 use Rattle.inspect.specs.declared.tally.Tally.{Tally}
 
 -- a tally, if each count fits 64 bits
 abbrev pub if_fits : Tally → Option Tally
-if_fits t = cond (nat_lt t.blocks 18446744073709551616 && (nat_lt t.entries 18446744073709551616 && nat_lt t.refused 18446744073709551616)) (Some t) None
+if_fits t =
+    cond (nat_lt t.blocks 18446744073709551616
+    && (nat_lt t.entries 18446744073709551616 && nat_lt t.refused 18446744073709551616)) (Some t) None
 
 -- the tally after one block more, by what reading it answers: each block counts, with its entries or as refused
 abbrev pub tallied : {X : Type 0} → Tally → Result Heading X → Option Tally
@@ -18,4 +21,6 @@ PastCounting t answer = (18446744073709551616 ≤ 512 * t.blocks) ⊎ (tallied t
 
 -- `K blocks, E entries, R refused`
 abbrev pub tally_text : Tally → List ℕ
-tally_text t = decimal t.blocks ++ (codes " blocks, " ++ (decimal t.entries ++ (codes " entries, " ++ (decimal t.refused ++ codes " refused"))))
+tally_text t =
+    decimal t.blocks
+    ++ (codes " blocks, " ++ (decimal t.entries ++ (codes " entries, " ++ (decimal t.refused ++ codes " refused"))))

@@ -1,4 +1,4 @@
-// A journal as text: what each block says, and the counts at the end.
+//! A journal as text: what each block says, and the counts at the end.
 ghost use Rattle.std.specs.Prelude.{◌≡◌, ◌+◌, ◌^◌, ◌<◌, ◌≤◌, vec_len, MatchOption, OnOk};
 ghost use Rattle.journal.specs.Calls.{read_answer};
 ghost use Rattle.inspect.specs.Reports.{Reported};
@@ -21,14 +21,15 @@ fn next_block<R: Read>(input: &mut R, block: &mut Vec<u8>) -> io::Result<()>
     Ok(())
 }
 
-// Reads one block and counts it; the report of it, or none where a count would pass 64 bits. The report borrows from the places, so they are lent beside
-// the tally: of a struct of both no clause could say what it holds afterwards.
+// Reads one block and counts it; the report of it, or none where a count would pass 64 bits. The report borrows from
+// the places, so they are lent beside the tally: of a struct of both no clause could say what it holds afterwards.
 fn take_block<'a>(
     block: &[u8],
     places: &'a mut [Entry],
     tally: &mut Tally,
 ) -> Option<BlockReport<'a>>
-    ensures { MatchOption result (PastCounting tally.old (read_answer block.now places.old)) (λ b. Reported tally.old block.now places.old b tally.new) }
+    ensures { MatchOption result (PastCounting tally.old (read_answer block.now places.old))
+        (λ b. Reported tally.old block.now places.old b tally.new) }
 {
     let at = tally.next_byte()?;
     let answer = read(block, places);
@@ -75,7 +76,8 @@ fn list_blocks<R: Read, W: Write>(
     }
 }
 
-// Prints a journal and its counts. Where the input cannot be read to its end, the blocks before are printed and counted first.
+// Prints a journal and its counts. Where the input cannot be read to its end,
+// the blocks before are printed and counted first.
 pub(crate) fn list<R: Read, W: Write>(
     alloc: Global,
     input: &mut R,

@@ -1,4 +1,4 @@
-// Prints a journal that comes on standard input.
+//! Prints a journal that comes on standard input.
 #![tactic(auto)]
 
 mod listing;
@@ -24,7 +24,8 @@ fn list_buffered<R: Read + Drop, W: Write + Drop>(
     list(alloc, &mut input, &mut out)
 }
 
-// The status is 1 where a block was refused, which the listing says, and where input, output or memory for the buffers failed.
+// The status is 1 where a block was refused, which the listing says, and where input,
+// output or memory for the buffers failed.
 fn main(rt: HostRuntime) -> ExitCode {
     match list_buffered(rt.alloc(), rt.stdin(), rt.stdout()) {
         Ok(tally) => {

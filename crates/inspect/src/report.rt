@@ -1,4 +1,4 @@
-// What is printed of one block.
+//! What is printed of one block.
 ghost use Rattle.std.specs.Prelude.{◌≡◌, ◌≤◌, length, IfOk, Some};
 ghost use Rattle.inspect.specs.Reports.{entry_lines, listed, report_text};
 
@@ -23,7 +23,8 @@ impl fmt::Display for EntryLines<'_> {
     }
 }
 
-// A block that begins at a byte of the input: what reading it answered, and its entries. The answer stays as it came, since contracts speak of it.
+/// A block that begins at a byte of the input: what reading it answered, and its entries. The answer stays as it came,
+/// since contracts speak of it.
 #[derive(Clone, Copy, PartialEq, Eq, Debug, Drop)]
 pub struct BlockReport<'a> {
     pub at: u64,

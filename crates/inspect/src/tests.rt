@@ -1,4 +1,4 @@
-// What is printed of journals that are not whole.
+//! What is printed of journals that are not whole.
 use crate::listing::list;
 use crate::tally::Tally;
 use journal::{Entry, Event, write};

@@ -1,5 +1,6 @@
 -- What the rules of the format say of a block or of entries, by the checks that passed or failed.
-use Rattle.std.proofs.Common.{◌≡◌, ℕ, ◌<◌, Bool, true, false, List, length, Some, None, Ok, Option, Result, sym, refl, ap, ◌∙◌, zero-le, arith}
+use Rattle.std.proofs.Common.{◌≡◌, ℕ, ◌<◌, Bool, true, false, List, length, Some, None}
+use Rattle.std.proofs.Common.{Ok, Option, Result, sym, refl, ap, ◌∙◌, zero-le, arith}
 use Rattle.decline.specs.declared.Decline.{Decline}
 use Rattle.decline.specs.declared.Decline.TheVariants.{BlockSums, BlockRule}
 use Rattle.decline.specs.declared.DeclineNumbers.{DeclineNumbers}
@@ -16,7 +17,8 @@ module _ {X : Type 0} where
   only_if_true t d r h = rw h
 
   -- an answer that is no refusal has passed the test
-  pub only_if_ok : (t : Bool) (d : Decline) (r : Result X DeclineNumbers) (x : X) → only_if t d r ≡ Ok x → (t ≡ true) × (r ≡ Ok x)
+  pub only_if_ok : (t : Bool) (d : Decline) (r : Result X DeclineNumbers) (x : X) → only_if t d r ≡ Ok x
+      → (t ≡ true) × (r ≡ Ok x)
   only_if_ok true d r x h = (refl, h)
   only_if_ok false d r x h = let z : ◌≡◌ {A = ℕ} 0 1 = cc in absurd (omega arith)
 
@@ -43,17 +45,23 @@ module _ (block : List ℕ) where
       only_if_true (sums_agree block) BlockSums _ g.sums ∙ only_if_true (header_lawful block) (BlockRule 0) _ g.header
       ∙ ap (λ (q : Option ℕ). unless_at q (Ok (heading_in block))) (failing_none (place_lawful block) 31 0 g.places)
 
-  -- of a block that is answered with a heading every rule of the format holds, and the heading is what it states of itself
+  -- of a block that is answered with a heading every rule of the format holds,
+  -- and the heading is what it states of itself
   pub answer_good : (h : Heading) → block_answer block ≡ Ok h → Good block × (h ≡ heading_in block)
   unfolding block_answer
   answer_good h e =
       let s = only_if_ok (sums_agree block) BlockSums _ h e in
       let t = only_if_ok (header_lawful block) (BlockRule 0) _ h s.1 in
       let u = unless_ok (first_failing (place_lawful block) 0 31) (Ok (heading_in block)) h t.1 in
-      let same : heading_in block ≡ h = cc u.1 in
-      (record { sums = s.0; header = t.0; places = λ k lt. passing (place_lawful block) 31 0 u.0 k zero-le lt }, sym same)
+      let same : heading_in block ≡ h = cc u.1 in (
+        record { sums = s.0; header = t.0; places = λ k lt. passing (place_lawful block) 31 0 u.0 k zero-le lt },
+        sym
+            same,
+      )
 
 -- entries that each fit their place are taken
 pub entries_taken : (es : List Entry) → ((k : ℕ) → k < length es → entry_fits es k ≡ true) → entries_answer es ≡ Ok tt
 unfolding entries_answer
-entries_taken es fit = ap (λ (q : Option ℕ). unless_at q (Ok tt)) (failing_none (entry_fits es) (length es) 0 (λ k lt. fit k (omega arith)))
+entries_taken es fit =
+    ap (λ (q : Option ℕ). unless_at q (Ok tt))
+    (failing_none (entry_fits es) (length es) 0 (λ k lt. fit k (omega arith)))

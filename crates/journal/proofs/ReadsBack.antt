@@ -1,5 +1,6 @@
 -- The bytes of a block that is written read back, and what does not read was not written.
-use Rattle.std.proofs.Common.{◌≡◌, ℕ, ◌+◌, ◌<◌, ◌≤◌, true, ltb, List, ◌++◌, length, drop, replicate, Ok, Err, Result, sym, refl, ap, ◌∙◌, subst, inl, inr, zero-le, arith}
+use Rattle.std.proofs.Common.{◌≡◌, ℕ, ◌+◌, ◌<◌, ◌≤◌, true, ltb, List, ◌++◌, length, drop, replicate}
+use Rattle.std.proofs.Common.{Ok, Err, Result, sym, refl, ap, ◌∙◌, subst, inl, inr, zero-le, arith}
 use Rattle.std.proofs.lemmas.List.{ext_get_or}
 use Rattle.std.proofs.lemmas.List.FromFn.{length-map-range_with_len, get_or-map-range_with_len}
 use Rattle.std.proofs.lemmas.Bool.Decides.{nat_tests}
@@ -12,8 +13,10 @@ use Rattle.journal.specs.declared.entries.Entry.{Entry}
 use Rattle.journal.specs.declared.blocks.Heading.{Heading}
 use Rattle.journal.specs.Bytes.{number2}
 use Rattle.journal.specs.Entries.{fields_of, fields_at, entry_from, lawful, fits}
-use Rattle.journal.specs.Blocks.{entry_at, first_slot, body_bytes, block_bytes, place_bytes, count_in, first_slot_in, entry_in, entries_in, all_zero, entry_fits, header_lawful, place_lawful, first_failing}
-use Rattle.journal.specs.Calls.{write_sized, entries_answer, write_answer, block_left, block_answer, read_answer, read_sized, places_left, ReadsBack, NeverWritten}
+use Rattle.journal.specs.Blocks.{entry_at, first_slot, body_bytes, block_bytes, place_bytes, count_in, first_slot_in}
+use Rattle.journal.specs.Blocks.{entry_in, entries_in, all_zero, entry_fits, header_lawful, place_lawful, first_failing}
+use Rattle.journal.specs.Calls.{write_sized, entries_answer, write_answer, block_left, block_answer}
+use Rattle.journal.specs.Calls.{read_answer, read_sized, places_left, ReadsBack, NeverWritten}
 use Rattle.journal.proofs.EntryLaws.{slot_of, slot_small, entry_back, bytes_back}
 use Rattle.journal.proofs.BlockLaws.{place_used, place_unused, length_body, length_block, sums_made}
 use Rattle.journal.proofs.Checks.{Good, good_answer, only_if_true, only_if_ok, unless_ok}
@@ -81,11 +84,13 @@ module _ (number : ℕ) (es : List Entry) (small : number < 4294967296) (some : 
   entries_are : entries_in block (length es) ≡ es
   entries_are =
       ext_get_or _ (entries_in block (length es)) es (length-map-range_with_len (entry_in block) 0 (length es)) (λ k lt.
-      let below : k < length es = subst (λ (n : ℕ). k < n) (length-map-range_with_len (entry_in block) 0 (length es)) lt in
+      let below : k < length es =
+      subst (λ (n : ℕ). k < n) (length-map-range_with_len (entry_in block) 0 (length es)) lt in
       get_or-map-range_with_len (entry_in block) 0 (length es) k k _ below (omega arith)
       ∙ ap entry_from (fields_are k below) ∙ entry_back (entry_at es k))
 
-  -- the block of a 32-bit number and 1 to 31 entries that each fit their place reads back as that number and those entries
+  -- the block of a 32-bit number and 1 to 31 entries that each fit their place reads back as
+  -- that number and those entries
   pub reads_back : ReadsBack number es (block_bytes number es)
   reads_back places n =
       let long = length_block number es few in
@@ -120,15 +125,19 @@ written_facts es block w =
     }
 
 -- a block that the rules refuse is one that no write makes
-pub never_written : (bytes : List ℕ) (n : DeclineNumbers) → length bytes ≡ 512 → block_answer bytes ≡ Err n → NeverWritten bytes
+pub never_written : (bytes : List ℕ) (n : DeclineNumbers) → length bytes ≡ 512 → block_answer bytes ≡ Err n
+    → NeverWritten bytes
 never_written bytes n long e number es block small w made =
     let f = written_facts es block w in
     let places : List Entry = replicate 31 (record { slot = 0; event = Unassigned }) in
-    let same : block_bytes number es ≡ bytes = sym (ap (λ (r : Result (Unit {0}) DeclineNumbers). block_left r number es block) w) ∙ made in
+    let same : block_bytes number es ≡ bytes =
+    sym (ap (λ (r : Result (Unit {0}) DeclineNumbers). block_left r number es block) w) ∙ made in
     let sized : read_sized bytes places ≡ true = and_from _ _ (eq-eqb _ 512 long) refl in
     let refused : read_answer bytes places ≡ Err n = only_if_true (read_sized bytes places) BlockSize _ sized ∙ e in
     let read : read_answer bytes places ≡ Ok (record { number = number; count = length es }) =
-    ap (λ (b : List ℕ). read_answer b places) (sym same) ∙ (reads_back number es small f.some f.few f.fit places refl).0 in
-    let clash : ◌≡◌ {A = Result Heading DeclineNumbers} (Err n) (Ok (record { number = number; count = length es })) = sym refused ∙ read in
+    ap (λ (b : List ℕ). read_answer b places) (sym same)
+    ∙ (reads_back number es small f.some f.few f.fit places refl).0 in
+    let clash : ◌≡◌ {A = Result Heading DeclineNumbers} (Err n) (Ok (record { number = number; count = length es })) =
+    sym refused ∙ read in
     let z : ◌≡◌ {A = ℕ} 0 1 = cc clash in
     absurd (omega arith)

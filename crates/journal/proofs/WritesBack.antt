@@ -1,9 +1,13 @@
 -- A block that reads well is written again by what was read.
-use Rattle.std.proofs.Common.{◌≡◌, ℕ, zero, suc, ◌+◌, ◌-◌, ◌*◌, ◌<◌, ◌≤◌, true, eqb, ltb, List, [], ◌∷◌, ◌++◌, length, get_or, take, drop, replicate, Ok, Result, sym, refl, ap, ◌∙◌, subst, inl, inr, add-zero, add-one, arith, take-add}
+use Rattle.std.proofs.Common.{◌≡◌, ℕ, zero, suc, ◌+◌, ◌-◌, ◌*◌, ◌<◌, ◌≤◌, true, eqb, ltb, List, []}
+use Rattle.std.proofs.Common.{◌∷◌, ◌++◌, length, get_or, take, drop, replicate, Ok, Result, sym}
+use Rattle.std.proofs.Common.{refl, ap, ◌∙◌, subst, inl, inr, add-zero, add-one, arith, take-add}
 use Rattle.std.specs.List.{flat_map}
 use Rattle.decline.specs.declared.Decline.TheVariants.{BlockSize}
 use Rattle.decline.specs.declared.DeclineNumbers.{DeclineNumbers}
-use Rattle.std.proofs.lemmas.List.{append_assoc, append-nil, length-take, length-take-le, length-drop, take_all, take-append-drop, take_at, get_or-take, get_or-drop, get_or_past, flat_map_more, replicate-append-replicate}
+use Rattle.std.proofs.lemmas.List.{append_assoc, append-nil, length-take, length-take-le, length-drop}
+use Rattle.std.proofs.lemmas.List.{take_all, take-append-drop, take_at, get_or-take, get_or-drop}
+use Rattle.std.proofs.lemmas.List.{get_or_past, flat_map_more, replicate-append-replicate}
 use Rattle.std.proofs.lemmas.List.FromFn.{length-map-range_with_len, get_or-map-range_with_len, map-range_with_len_more}
 use Rattle.std.proofs.lemmas.Bool.Decides.{nat_tests}
 use Rattle.std.proofs.lemmas.Bool.{cases_lt, cond-true, cond-false, and_parts, lt-ltb, le-ltb, eqb-true}
@@ -12,7 +16,8 @@ use Rattle.journal.specs.declared.blocks.Heading.{Heading}
 use Rattle.journal.specs.Bytes.{number2, number4}
 use Rattle.journal.specs.Entries.{fields_of, fields_at, field_bytes, entry_bytes, lawful, fits}
 use Rattle.journal.specs.Sums.{sum_a, sum_b}
-use Rattle.journal.specs.Blocks.{entry_at, first_slot, header_bytes, sum_bytes, block_bytes, place_bytes, count_in, first_slot_in, entry_in, entries_in, all_zero, entry_fits, header_lawful}
+use Rattle.journal.specs.Blocks.{entry_at, first_slot, header_bytes, sum_bytes, block_bytes, place_bytes, count_in}
+use Rattle.journal.specs.Blocks.{first_slot_in, entry_in, entries_in, all_zero, entry_fits, header_lawful}
 use Rattle.journal.specs.Calls.{write_sized, write_answer, block_left, block_after, WritesBack}
 use Rattle.journal.proofs.Digits.{Bytes, digits2, digits4, spelled, spelled_is}
 use Rattle.journal.proofs.EntryLaws.{fields_back, part_back}
@@ -26,7 +31,8 @@ pub record Header (block : List ℕ) : Type 0 where
   pub gap : number2 block 6 ≡ 0
   pub first : first_slot_in block < 16777216
 
--- a header that keeps the rules states 1 to 31 entries and a first slot below 16,777,216, and its bytes 6 and 7 are zero
+-- a header that keeps the rules states 1 to 31 entries and a first slot below 16,777,216,
+-- and its bytes 6 and 7 are zero
 pub header_facts : (block : List ℕ) → header_lawful block ≡ true → Header block
 header_facts block h = record {
   some = grind (arith, nat_tests);
@@ -51,26 +57,32 @@ part_bytes n m bs h i = elim (cases_lt i n) [
       subst (λ (x : ℕ). x < 256) (sym (get_or_past (take n (drop m bs)) i 0 past)) (omega arith))
 ]
 
--- the first twelve of 512 bytes are the header of the number, count and first slot that they state, if bytes 6 and 7 are zero
-header_read : (block : List ℕ) → length block ≡ 512 → Bytes block → number2 block 6 ≡ 0 → take 12 block ≡ header_bytes (number4 block 0) (count_in block) (first_slot_in block)
+-- the first twelve of 512 bytes are the header of the number, count and first slot that they state,
+-- if bytes 6 and 7 are zero
+header_read : (block : List ℕ) → length block ≡ 512 → Bytes block → number2 block 6 ≡ 0
+    → take 12 block ≡ header_bytes (number4 block 0) (count_in block) (first_slot_in block)
 header_read block n h z =
-    let a = digits4 (get_or block 0 0) (get_or block 1 0) (get_or block 2 0) (get_or block 3 0) (h 0) (h 1) (h 2) (h 3) in
+    let a =
+    digits4 (get_or block 0 0) (get_or block 1 0) (get_or block 2 0) (get_or block 3 0) (h 0) (h 1) (h 2) (h 3) in
     let b = digits2 (get_or block 4 0) (get_or block 5 0) (h 4) (h 5) in
     let z6 : get_or block 6 0 ≡ 0 = omega (arith, z) in
     let z7 : get_or block 7 0 ≡ 0 = omega (arith, z) in
-    let d = digits4 (get_or block 8 0) (get_or block 9 0) (get_or block 10 0) (get_or block 11 0) (h 8) (h 9) (h 10) (h 11) in
+    let d =
+    digits4 (get_or block 8 0) (get_or block 9 0) (get_or block 10 0) (get_or block 11 0) (h 8) (h 9) (h 10) (h 11) in
     let e : header_bytes (number4 block 0) (count_in block) (first_slot_in block) ≡ spelled 12 0 block = cc in
     sym (spelled_is 12 0 block (omega arith)) ∙ sym e
 
 -- 512 bytes are the first 508 and the sums of these, if the sums that stand at the end are those of bytes 0 to 507
 sums_read : (block : List ℕ) → length block ≡ 512 → Bytes block
-    → number2 block 508 ≡ sum_a (take 508 block) → number2 block 510 ≡ sum_b (take 508 block) → block ≡ take 508 block ++ sum_bytes (take 508 block)
+    → number2 block 508 ≡ sum_a (take 508 block) → number2 block 510 ≡ sum_b (take 508 block)
+    → block ≡ take 508 block ++ sum_bytes (take 508 block)
 sums_read block n h ea eb =
     let a = digits2 (get_or block 508 0) (get_or block 509 0) (h 508) (h 509) in
     let b = digits2 (get_or block 510 0) (get_or block 511 0) (h 510) (h 511) in
     let s : sum_bytes (take 508 block) ≡ spelled 4 508 block = cc in
     let e : drop 508 block ≡ sum_bytes (take 508 block) =
-    sym (take_all 4 (drop 508 block) (simp length-drop (omega arith))) ∙ sym (spelled_is 4 508 block (omega arith)) ∙ sym s in
+    sym (take_all 4 (drop 508 block) (simp length-drop (omega arith))) ∙ sym (spelled_is 4 508 block (omega arith))
+    ∙ sym s in
     sym (take-append-drop 508 block) ∙ ap (λ (q : List ℕ). take 508 block ++ q) e
 
 -- the bytes up to the next place
@@ -95,10 +107,13 @@ module _ (block : List ℕ) (long : length block ≡ 512) (bytes : Bytes block) 
   -- the fields in place k, below the count, keep the rules of an entry for the first slot plus k
   used_fits : (k : ℕ) → k < count_in block → fits (first_slot_in block + k) (fields_at (place_bytes block k)) ≡ true
   used_fits k lt =
-      sym (cond-true (ltb k (count_in block)) _ _ (lt-ltb k (count_in block) lt)) ∙ good.places k (omega (arith, header.few))
+      sym (cond-true (ltb k (count_in block)) _ _ (lt-ltb k (count_in block) lt))
+      ∙ good.places k (omega (arith, header.few))
 
   -- the fields in place k, below the count, keep the rules of an entry, and their slot is the first slot plus k
-  used_facts : (k : ℕ) → k < count_in block → (lawful (fields_at (place_bytes block k)) ≡ true) × (eqb (fields_at (place_bytes block k)).slot (first_slot_in block + k) ≡ true)
+  used_facts : (k : ℕ) → k < count_in block
+      → (lawful (fields_at (place_bytes block k)) ≡ true)
+      × (eqb (fields_at (place_bytes block k)).slot (first_slot_in block + k) ≡ true)
   used_facts k lt = and_parts (lawful (fields_at (place_bytes block k))) _ (used_fits k lt)
 
   -- the entry that a place below the count spells has the fields that stand in the place
@@ -109,7 +124,8 @@ module _ (block : List ℕ) (long : length block ≡ 512) (bytes : Bytes block) 
   place_entry : (k : ℕ) → k < count_in block → place_bytes block k ≡ entry_bytes (entry_in block k)
   place_entry k lt =
       sym (ap field_bytes (fields_are k lt)
-      ∙ part_back (place_bytes block k) (length_place k (omega (arith, header.few))) (part_bytes 16 (12 + 16 * k) block bytes))
+      ∙ part_back (place_bytes block k) (length_place k (omega (arith, header.few)))
+      (part_bytes 16 (12 + 16 * k) block bytes))
 
   -- the entries that the block spells are as many as its count
   length_entries : length entries ≡ count_in block
@@ -123,7 +139,9 @@ module _ (block : List ℕ) (long : length block ≡ 512) (bytes : Bytes block) 
   first_is : first_slot entries ≡ first_slot_in block
   first_is =
       let lt : 0 < count_in block = omega (arith, header.some) in
-      ap (λ (e : Entry). e.slot) (entry_at-entries 0 lt) ∙ eqb-true (fields_at (place_bytes block 0)).slot (first_slot_in block + 0) (used_facts 0 lt).1 ∙ add-zero (first_slot_in block)
+      ap (λ (e : Entry). e.slot) (entry_at-entries 0 lt)
+      ∙ eqb-true (fields_at (place_bytes block 0)).slot (first_slot_in block + 0) (used_facts 0 lt).1
+      ∙ add-zero (first_slot_in block)
 
   -- each of the entries that the block spells fits its place
   entry_fits-entries : (k : ℕ) → k < length entries → entry_fits entries k ≡ true
@@ -135,7 +153,8 @@ module _ (block : List ℕ) (long : length block ≡ 512) (bytes : Bytes block) 
       ∙ used_fits k lt
 
   -- up to place m, which is at most the count, the block is its first twelve bytes and the bytes of its first m entries
-  entries_read : (m : ℕ) → m ≤ count_in block → take (12 + 16 * m) block ≡ take 12 block ++ flat_map entry_bytes (entries_in block m)
+  entries_read : (m : ℕ) → m ≤ count_in block
+      → take (12 + 16 * m) block ≡ take 12 block ++ flat_map entry_bytes (entries_in block m)
   entries_read zero le = sym (append-nil (take 12 block))
   entries_read (suc m) le =
       let lt : m < count_in block = omega arith in
@@ -144,27 +163,34 @@ module _ (block : List ℕ) (long : length block ≡ 512) (bytes : Bytes block) 
       ∙ ap (λ (q : List ℕ). q ++ place_bytes block m) (entries_read m (omega arith))
       ∙ ap (λ (q : List ℕ). (take 12 block ++ flat_map entry_bytes (entries_in block m)) ++ q) (place_entry m lt)
       ∙ flat_map_more entry_bytes (take 12 block) (entries_in block m) (entry_in block m)
-      ∙ ap (λ (q : List Entry). take 12 block ++ flat_map entry_bytes q) (sym (map-range_with_len_more (entry_in block) 0 m m (omega arith)))
+      ∙ ap (λ (q : List Entry). take 12 block ++ flat_map entry_bytes q)
+      (sym (map-range_with_len_more (entry_in block) 0 m m (omega arith)))
       ∙ ap (λ (n : ℕ). take 12 block ++ flat_map entry_bytes (entries_in block n)) (add-one m)
 
   -- each of the 31 places of the block from the count on is sixteen zeros
   unused_zero : (k : ℕ) → count_in block ≤ k → k < 31 → place_bytes block k ≡ replicate 16 0
   unused_zero k ge lt =
-      zeros_are (place_bytes block k) (sym (cond-false (ltb k (count_in block)) _ _ (le-ltb k (count_in block) ge)) ∙ good.places k lt)
+      zeros_are (place_bytes block k)
+      (sym (cond-false (ltb k (count_in block)) _ _ (le-ltb k (count_in block) ge)) ∙ good.places k lt)
       ∙ ap (λ (n : ℕ). replicate n 0) (length_place k lt)
 
   -- up to j places past the count, of 31 in all, the block is what it is up to the count, and 16 × j zeros
-  zeros_read : (j : ℕ) → count_in block + j ≤ 31 → take (12 + 16 * (count_in block + j)) block ≡ take (12 + 16 * count_in block) block ++ replicate (16 * j) 0
-  zeros_read zero le = ap (λ (n : ℕ). take (12 + 16 * n) block) (add-zero (count_in block)) ∙ sym (append-nil (take (12 + 16 * count_in block) block))
+  zeros_read : (j : ℕ) → count_in block + j ≤ 31
+      → take (12 + 16 * (count_in block + j)) block ≡ take (12 + 16 * count_in block) block ++ replicate (16 * j) 0
+  zeros_read zero le =
+      ap (λ (n : ℕ). take (12 + 16 * n) block) (add-zero (count_in block))
+      ∙ sym (append-nil (take (12 + 16 * count_in block) block))
   zeros_read (suc j) le =
       let n : count_in block + suc j ≡ (count_in block + j) + 1 = omega arith in
       let m : 16 * j + 16 ≡ 16 * suc j = omega arith in
       ap (λ (i : ℕ). take (12 + 16 * i) block) n
       ∙ place_next block (count_in block + j)
       ∙ ap (λ (q : List ℕ). q ++ place_bytes block (count_in block + j)) (zeros_read j (omega arith))
-      ∙ ap (λ (q : List ℕ). (take (12 + 16 * count_in block) block ++ replicate (16 * j) 0) ++ q) (unused_zero (count_in block + j) (omega arith) (omega arith))
+      ∙ ap (λ (q : List ℕ). (take (12 + 16 * count_in block) block ++ replicate (16 * j) 0) ++ q)
+      (unused_zero (count_in block + j) (omega arith) (omega arith))
       ∙ append_assoc (take (12 + 16 * count_in block) block) (replicate (16 * j) 0) (replicate 16 0)
-      ∙ ap (λ (q : List ℕ). take (12 + 16 * count_in block) block ++ q) (replicate-append-replicate (16 * j) 16 0 ∙ ap (λ (i : ℕ). replicate i 0) m)
+      ∙ ap (λ (q : List ℕ). take (12 + 16 * count_in block) block ++ q)
+      (replicate-append-replicate (16 * j) 16 0 ∙ ap (λ (i : ℕ). replicate i 0) m)
 
   -- the block is the one that its entries make
   block_is : block ≡ block_bytes (number4 block 0) entries
@@ -175,16 +201,20 @@ module _ (block : List ℕ) (long : length block ≡ 512) (bytes : Bytes block) 
       ∙ ap (λ (m : ℕ). header_bytes (number4 block 0) m (first_slot_in block)) (sym length_entries)
       ∙ ap (λ (m : ℕ). header_bytes (number4 block 0) (length entries) m) (sym first_is) in
       let all : 12 + 16 * (count_in block + (31 - count_in block)) ≡ 508 = omega (arith, header.few) in
-      let pad : 16 * (31 - count_in block) ≡ 508 - (12 + 16 * length entries) = omega (arith, header.few, length_entries) in
-      let zeros : take 508 block ≡ take (12 + 16 * count_in block) block ++ replicate (508 - (12 + 16 * length entries)) 0 =
+      let pad : 16 * (31 - count_in block) ≡ 508 - (12 + 16 * length entries) =
+      omega (arith, header.few, length_entries) in
+      let zeros : take 508 block
+      ≡ take (12 + 16 * count_in block) block ++ replicate (508 - (12 + 16 * length entries)) 0 =
       ap (λ (m : ℕ). take m block) (sym all) ∙ zeros_read (31 - count_in block) (omega (arith, header.few))
       ∙ ap (λ (m : ℕ). take (12 + 16 * count_in block) block ++ replicate m 0) pad in
       let s = and_parts (eqb (number2 block 508) (sum_a (take 508 block))) _ good.sums in
-      block_made (number4 block 0) entries (take 12 block) (take (12 + 16 * count_in block) block) (take 508 block) block few heads
+      block_made (number4 block 0) entries (take 12 block) (take (12 + 16 * count_in block) block)
+      (take 508 block) block few heads
       (entries_read (count_in block) (omega arith)) zeros
       (sums_read block long bytes (eqb-true _ _ s.0) (eqb-true _ _ s.1))
 
-  -- writing the entries that the block spells, under its number, gives the block, whatever the places past the count hold
+  -- writing the entries that the block spells, under its number, gives the block,
+  -- whatever the places past the count hold
   writes_back : (places : List Entry) → WritesBack (heading_in block) (entries ++ drop (count_in block) places) block
   writes_back places copy n =
       let front : take (count_in block) (entries ++ drop (count_in block) places) ≡ entries =
@@ -196,7 +226,8 @@ module _ (block : List ℕ) (long : length block ≡ 512) (bytes : Bytes block) 
       only_if_true (write_sized entries copy) BlockSize _ sized
       ∙ entries_taken entries entry_fits-entries in
       let after : block_after (number4 block 0) entries copy ≡ block =
-      ap (λ (r : Result (Unit {0}) DeclineNumbers). block_left r (number4 block 0) entries copy) answer ∙ sym block_is in
+      ap (λ (r : Result (Unit {0}) DeclineNumbers). block_left r (number4 block 0) entries copy) answer
+      ∙ sym block_is in
       rw front (answer, after)
 
   -- the same of what `read` leaves in the places
@@ -205,4 +236,5 @@ module _ (block : List ℕ) (long : length block ≡ 512) (bytes : Bytes block) 
   read_writes_back places after h eh ea =
       let same : after ≡ entries ++ drop (count_in block) places =
       ea ∙ ap (λ (k : Heading). entries_in block k.count ++ drop k.count places) eh in
-      subst (λ (k : Heading). WritesBack k after block) (sym eh) (subst (λ (q : List Entry). WritesBack (heading_in block) q block) (sym same) (writes_back places))
+      subst (λ (k : Heading). WritesBack k after block) (sym eh)
+      (subst (λ (q : List Entry). WritesBack (heading_in block) q block) (sym same) (writes_back places))

@@ -1,5 +1,6 @@
 -- Blocks: the 512 bytes of a number and some entries, and the rules that a block keeps.
-use Rattle.std.specs.Prelude.{ℕ, zero, suc, ◌+◌, ◌-◌, ◌*◌, Bool, cond, ◌&&◌, List, ◌∷◌, ◌++◌, map, length, take, drop, replicate, Some, None, Option, ◌==◌, nat_lt, slice_index_or}
+use Rattle.std.specs.Prelude.{ℕ, zero, suc, ◌+◌, ◌-◌, ◌*◌, Bool, cond, ◌&&◌, List, ◌∷◌, ◌++◌, map, length}
+use Rattle.std.specs.Prelude.{take, drop, replicate, Some, None, Option, ◌==◌, nat_lt, slice_index_or}
 use Rattle.std.specs.List.{range_with_len, flat_map, list_all}
 use Rattle.journal.specs.declared.entries.Event.TheVariants.{Unassigned}
 use Rattle.journal.specs.declared.entries.Entry.{Entry}
@@ -71,7 +72,8 @@ header_lawful block = within 1 31 (count_in block) && (number2 block 6 == 0 && n
 -- the rules of a place: below the count an entry of its slot, past it zeros
 abbrev pub place_lawful : List ℕ → ℕ → Bool
 place_lawful block e =
-    cond (nat_lt e (count_in block)) (fits (first_slot_in block + e) (fields_at (place_bytes block e))) (all_zero (place_bytes block e))
+    cond (nat_lt e (count_in block)) (fits (first_slot_in block + e) (fields_at (place_bytes block e)))
+    (all_zero (place_bytes block e))
 
 -- the first of the n numbers from i on that a test turns down
 unfoldable pub first_failing : (ℕ → Bool) → ℕ → ℕ → Option ℕ

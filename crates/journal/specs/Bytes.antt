@@ -15,4 +15,5 @@ number2 bs i = slice_index bs i * 256 + slice_index bs (i + 1)
 
 -- the number in the four bytes from byte i on
 abbrev pub number4 : List ℕ → ℕ → ℕ
-number4 bs i = slice_index bs i * 16777216 + slice_index bs (i + 1) * 65536 + slice_index bs (i + 2) * 256 + slice_index bs (i + 3)
+number4 bs i =
+    slice_index bs i * 16777216 + slice_index bs (i + 1) * 65536 + slice_index bs (i + 2) * 256 + slice_index bs (i + 3)

@@ -1,5 +1,6 @@
 -- What `write` and `read` answer and leave behind, and the round trip in both directions.
-use Rattle.std.specs.Prelude.{◌≡◌, ℕ, ◌+◌, ◌<◌, Bool, cond, ◌&&◌, List, ◌++◌, length, take, drop, Some, None, Ok, Err, Option, Result, ◌==◌, ◌≢◌}
+use Rattle.std.specs.Prelude.{◌≡◌, ℕ, ◌+◌, ◌<◌, Bool, cond, ◌&&◌, List, ◌++◌, length}
+use Rattle.std.specs.Prelude.{take, drop, Some, None, Ok, Err, Option, Result, ◌==◌, ◌≢◌}
 use Rattle.decline.specs.declared.Decline.{Decline}
 use Rattle.decline.specs.declared.Decline.TheVariants.{BlockSize, BlockSums, BlockRule}
 use Rattle.decline.specs.declared.DeclineNumbers.{DeclineNumbers}
@@ -8,7 +9,8 @@ use Rattle.journal.specs.declared.entries.Entry.{Entry}
 use Rattle.journal.specs.declared.blocks.Heading.{Heading}
 use Rattle.journal.specs.Bytes.{number4}
 use Rattle.journal.specs.Entries.{within}
-use Rattle.journal.specs.Blocks.{block_bytes, count_in, entries_in, entry_fits, sums_agree, header_lawful, place_lawful, first_failing}
+use Rattle.journal.specs.Blocks.{block_bytes, count_in, entries_in, entry_fits}
+use Rattle.journal.specs.Blocks.{sums_agree, header_lawful, place_lawful, first_failing}
 
 -- the answer r if a test holds, else a refusal
 abbrev pub only_if : {X : Type 0} → Bool → Decline → Result X DeclineNumbers → Result X DeclineNumbers
@@ -49,7 +51,8 @@ unfoldable pub block_answer : List ℕ → Result Heading DeclineNumbers
 block_answer block =
     only_if (sums_agree block) BlockSums
     (only_if (header_lawful block) (BlockRule 0)
-    (unless_at (first_failing (place_lawful block) 0 31) (Ok (record { number = number4 block 0; count = count_in block }))))
+    (unless_at (first_failing (place_lawful block) 0 31)
+    (Ok (record { number = number4 block 0; count = count_in block }))))
 
 -- what `read` answers
 abbrev pub read_answer : List ℕ → List Entry → Result Heading DeclineNumbers

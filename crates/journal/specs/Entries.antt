@@ -1,5 +1,6 @@
 -- Entries: the number of each case, the sixteen bytes of an entry, and the rules that it keeps.
-use Rattle.std.specs.Prelude.{◌≡◌, ℕ, ◌≤◌, IfErr, Result, Bool, cond, ◌&&◌, List, ◌∷◌, ◌++◌, ◌==◌, nat_le, nat_lt, slice_index}
+use Rattle.std.specs.Prelude.{◌≡◌, ℕ, ◌≤◌, IfErr, Result, Bool, cond, ◌&&◌, List}
+use Rattle.std.specs.Prelude.{◌∷◌, ◌++◌, ◌==◌, nat_le, nat_lt, slice_index}
 use Rattle.std.specs.Result.{OkIff}
 use Rattle.journal.specs.declared.entries.Outcome.{Outcome}
 use Rattle.journal.specs.declared.entries.Outcome.TheVariants.{Written, Read, Refused}
@@ -20,16 +21,57 @@ outcome_number Refused = 3
 -- the number of each kind of event, and the nine fields of an entry; one that its kind does not have is 0
 abbrev pub fields_of : Entry → Fields
 fields_of e = elim e.event [
-  | Unassigned ↦ record { slot = e.slot; kind = 0; guest = 0; item = 0; position = 0; register = 0; outcome = 0; value = 0; deadline = 0 }
-  | Fixed p a ↦ record { slot = e.slot; kind = 1; guest = 0; item = p; position = 0; register = a.register; outcome = outcome_number a.outcome; value = a.value; deadline = 0 }
-  | Used g t p a d ↦ record { slot = e.slot; kind = 2; guest = g; item = t; position = p; register = a.register; outcome = outcome_number a.outcome; value = a.value; deadline = d }
-  | Idle g ↦ record { slot = e.slot; kind = 3; guest = g; item = 0; position = 0; register = 0; outcome = 0; value = 0; deadline = 0 }
+  | Unassigned ↦ record {
+    slot = e.slot;
+    kind = 0;
+    guest = 0;
+    item = 0;
+    position = 0;
+    register = 0;
+    outcome = 0;
+    value = 0;
+    deadline = 0;
+  }
+  | Fixed p a ↦ record {
+    slot = e.slot;
+    kind = 1;
+    guest = 0;
+    item = p;
+    position = 0;
+    register = a.register;
+    outcome = outcome_number a.outcome;
+    value = a.value;
+    deadline = 0;
+  }
+  | Used g t p a d ↦ record {
+    slot = e.slot;
+    kind = 2;
+    guest = g;
+    item = t;
+    position = p;
+    register = a.register;
+    outcome = outcome_number a.outcome;
+    value = a.value;
+    deadline = d;
+  }
+  | Idle g ↦ record {
+    slot = e.slot;
+    kind = 3;
+    guest = g;
+    item = 0;
+    position = 0;
+    register = 0;
+    outcome = 0;
+    value = 0;
+    deadline = 0;
+  }
 ]
 
 -- nine fields as sixteen bytes
 abbrev pub field_bytes : Fields → List ℕ
 field_bytes f =
-    bytes4 f.slot ++ (f.kind ∷ f.guest ∷ f.item ∷ f.position ∷ f.register ∷ f.outcome ∷ (bytes2 f.value ++ bytes4 f.deadline))
+    bytes4 f.slot
+    ++ (f.kind ∷ f.guest ∷ f.item ∷ f.position ∷ f.register ∷ f.outcome ∷ (bytes2 f.value ++ bytes4 f.deadline))
 
 -- the sixteen bytes of an entry
 abbrev pub entry_bytes : Entry → List ℕ

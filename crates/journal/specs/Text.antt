@@ -19,7 +19,9 @@ unknown_outcome_text n = codes "no outcome has the number " ++ decimal n
 
 -- `register R, OUTCOME V`
 abbrev pub access_text : Access → List ℕ
-access_text a = codes "register " ++ (decimal a.register ++ (codes ", " ++ (outcome_text a.outcome ++ (codes " " ++ decimal a.value))))
+access_text a =
+    codes "register "
+    ++ (decimal a.register ++ (codes ", " ++ (outcome_text a.outcome ++ (codes " " ++ decimal a.value))))
 
 -- what happened, by kind
 abbrev pub event_text : Event → List ℕ

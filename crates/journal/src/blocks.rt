@@ -1,21 +1,25 @@
-// Blocks of 512 bytes: a header, 31 places for entries and two sums.
-ghost use Rattle.std.specs.Prelude.{◌≡◌, ◌+◌, ◌-◌, ◌*◌, ◌<◌, ◌≤◌, true, ◌++◌, length, take, drop, replicate, IfSome, IfOk, OnErr, OnOk};
+//! Blocks of 512 bytes: a header, 31 places for entries and two sums.
+ghost use Rattle.std.specs.Prelude.{◌≡◌, ◌+◌, ◌-◌, ◌*◌, ◌<◌, ◌≤◌, true, ◌++◌, length};
+ghost use Rattle.std.specs.Prelude.{take, drop, replicate, IfSome, IfOk, OnErr, OnOk};
 ghost use Rattle.std.specs.List.{flat_map};
 ghost use Rattle.decline.specs.Refusals.{by_numbers};
 ghost use Rattle.journal.specs.Entries.{entry_bytes};
 ghost use Rattle.journal.specs.Bytes.{number4};
-ghost use Rattle.journal.specs.Blocks.{count_in, first_slot_in, entry_in, header_bytes, sum_bytes, place_bytes, entries_in, all_zero, entry_fits, sums_agree, header_lawful, place_lawful, first_failing};
-ghost use Rattle.journal.specs.Calls.{entries_answer, write_answer, block_left, block_after, block_answer, read_sized, read_answer, places_left, places_after, ReadsBack, WritesBack, NeverWritten};
+ghost use Rattle.journal.specs.Blocks.{count_in, first_slot_in, entry_in, header_bytes};
+ghost use Rattle.journal.specs.Blocks.{sum_bytes, place_bytes, entries_in, all_zero, entry_fits};
+ghost use Rattle.journal.specs.Blocks.{sums_agree, header_lawful, place_lawful, first_failing};
+ghost use Rattle.journal.specs.Calls.{entries_answer, write_answer, block_left, block_after, block_answer, read_sized};
+ghost use Rattle.journal.specs.Calls.{read_answer, places_left, places_after, ReadsBack, WritesBack, NeverWritten};
 
 use crate::entries::Entry;
 use crate::fields::{ENTRY_BYTES, Fields, SLOTS};
 use crate::sums::BlockSums;
 use decline::Decline;
 
-// The bytes of a block.
+/// The bytes of a block.
 pub const BLOCK_BYTES: usize = 512;
 
-// The places for entries in a block.
+/// The places for entries in a block.
 pub const PLACES: usize = 31;
 
 // The bytes before the places.
@@ -24,11 +28,14 @@ const HEADER_BYTES: usize = 12;
 // The byte at which the sums begin.
 const SUMS_START: usize = 508;
 
-// What a block that reads well says of itself: its number, and how many entries it has. The entries are in places that the caller lends, so their count
-// stands here; its fields are open, so that it is at most 31 is said where one is answered.
+/// What a block that reads well says of itself: its number, and how many entries it has. The entries are in places that
+/// the caller lends, so their count stands here; its fields are open, so that it is at most 31 is said where one is
+/// answered.
 #[derive(Clone, Copy, PartialEq, Eq, Debug)]
 pub struct Heading {
+    /// The block's number.
     pub number: u32,
+    /// How many entries it has.
     pub count: usize,
 }
 
@@ -51,7 +58,8 @@ fn bytes_at<const N: usize>(block: &Block, at: usize) -> &[u8; N]
     block[at..].first_chunk().unwrap()
 }
 
-// The number of the block. The fields of a header are read where they stand, since the rules speak of the bytes of a block.
+// The number of the block. The fields of a header are read where they stand,
+// since the rules speak of the bytes of a block.
 fn number(block: &Block) -> u32
     ensures { result ≡ number4 block.now 0 }
 {
@@ -72,7 +80,8 @@ fn first_slot(block: &Block) -> u32
     u32::from_be_bytes(*bytes_at(block, 8))
 }
 
-// The bytes of a place. A place goes by its index: a type for one below 31 would be longer than the bound that three functions state.
+// The bytes of a place. A place goes by its index: a type for one below 31 would be longer than the bound
+// that three functions state.
 fn place(block: &Block, e: usize) -> &[u8; ENTRY_BYTES]
     requires { e < PLACES }
     ensures { result.now ≡ place_bytes block.now e }
@@ -178,8 +187,8 @@ fn read_sized(block: &Block, places: &mut [Entry; PLACES]) -> Result<Heading, De
     Ok(heading)
 }
 
-// Reads a block of 512 bytes into 31 places: the places below the count get its entries, and those past it keep what they held.
-// A block that is refused changes nothing. Block and places are the caller's, each on its own.
+/// Reads a block of 512 bytes into 31 places: the places below the count get its entries, and those past it keep what
+/// they held. A block that is refused changes nothing. Block and places are the caller's, each on its own.
 pub fn read(block: &[u8], places: &mut [Entry]) -> Result<Heading, Decline>
     ensures answer { by_numbers result ≡ read_answer block.now places.old }
     ensures after { places.new ≡ places_after block.now places.old }
@@ -225,7 +234,8 @@ fn put_header(block: &mut Block, number: u32, count: u16, first: u32)
     put(block, 8, &first.to_be_bytes());
 }
 
-// Puts the entries into the first places, each by its start: the library says nothing of what `chunks_exact_mut` leaves.
+// Puts the entries into the first places, each by its start: the library says nothing
+// of what `chunks_exact_mut` leaves.
 fn put_entries(block: &mut Block, entries: &[Entry])
     requires { length entries.now ≤ PLACES }
     ensures { take (12 + 16 * length entries.now) block.new ≡ take 12 block.old ++ flat_map entry_bytes entries.now }
@@ -272,7 +282,7 @@ fn write_sized(number: u32, entries: &[Entry], block: &mut Block) -> Result<(), 
     Ok(())
 }
 
-// Writes 1 to 31 entries of successive slots into a block of 512 bytes. A write that is refused changes nothing.
+/// Writes 1 to 31 entries of successive slots into a block of 512 bytes. A write that is refused changes nothing.
 pub fn write(number: u32, entries: &[Entry], block: &mut [u8]) -> Result<(), Decline>
     ensures answer { by_numbers result ≡ write_answer entries.now block.old }
     ensures after { block.new ≡ block_after number entries.now block.old }

@@ -1,18 +1,21 @@
-// What the journal says of one slot.
+//! What the journal says of one slot.
 ghost use Rattle.std.specs.Prelude.{◌≡◌};
 ghost use Rattle.journal.specs.Entries.{outcome_number, IsOutcomeOf};
 
 use std::error::Error;
 
-// How the device took an operation.
+/// How the device took an operation.
 #[derive(Clone, Copy, PartialEq, Eq, Debug)]
 pub enum Outcome {
+    /// The value was written.
     Written,
+    /// The value was read.
     Read,
+    /// The device refused the operation.
     Refused,
 }
 
-// A number that no outcome has.
+/// A number that no outcome has.
 #[derive(Clone, Copy, PartialEq, Eq, Debug)]
 pub struct UnknownOutcome(pub u8);
 
@@ -47,25 +50,28 @@ impl TryFrom<u8> for Outcome {
     }
 }
 
-// One operation at the device: the value is what was written, read or offered.
+/// One operation at the device: the value is what was written, read or offered.
 #[derive(Clone, Copy, PartialEq, Eq, Debug)]
 pub struct Access {
+    /// The register that it wrote or read.
     pub register: u8,
+    /// How the device took it.
     pub outcome: Outcome,
+    /// What was written, read or offered.
     pub value: u16,
 }
 
-// What happened in a slot. Guests, tasks, fixed operations and the operations of a job are numbered from 1.
+/// What happened in a slot. Guests, tasks, fixed operations and the operations of a job are numbered from 1.
 #[derive(Clone, Copy, PartialEq, Eq, Debug)]
 pub enum Event {
-    // Nobody got the slot.
+    /// Nobody got the slot.
     Unassigned,
-    // The slot table gave it to a fixed operation.
+    /// The slot table gave it to a fixed operation.
     Fixed {
         operation: u8,
         access: Access,
     },
-    // It was granted to a guest, whose job put its next operation to the device.
+    /// It was granted to a guest, whose job put its next operation to the device.
     Used {
         guest: u8,
         task: u8,
@@ -73,15 +79,17 @@ pub enum Event {
         access: Access,
         deadline: u32,
     },
-    // It was granted to a guest that had no job.
+    /// It was granted to a guest that had no job.
     Idle {
         guest: u8,
     },
 }
 
-// One slot of the journal.
+/// One slot of the journal.
 #[derive(Clone, Copy, PartialEq, Eq, Debug)]
 pub struct Entry {
+    /// The slot, from 0.
     pub slot: u32,
+    /// What happened in it.
     pub event: Event,
 }

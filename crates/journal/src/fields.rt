@@ -1,7 +1,9 @@
-// The nine fields of an entry's sixteen bytes, and what they spell.
+//! The nine fields of an entry's sixteen bytes, and what they spell.
 ghost use Rattle.std.specs.Prelude.{◌≡◌, ◌==◌, ◌&&◌};
 ghost use Rattle.journal.specs.Kind.{IsKindOf};
-ghost use Rattle.journal.specs.Entries.{fields_of, field_bytes, fields_at, no_access, some_access, unassigned_fields, fixed_fields, used_fields, idle_fields, lawful, access_from, event_from, entry_from, fits};
+ghost use Rattle.journal.specs.Entries.{fields_of, field_bytes, fields_at, no_access, some_access};
+ghost use Rattle.journal.specs.Entries.{unassigned_fields, fixed_fields, used_fields, idle_fields};
+ghost use Rattle.journal.specs.Entries.{lawful, access_from, event_from, entry_from, fits};
 
 use crate::entries::{Access, Entry, Event, Outcome};
 
@@ -37,19 +39,19 @@ impl TryFrom<u8> for Kind {
     }
 }
 
-// The fields of an entry in the order of its bytes; `item` is a task or a fixed operation. One that its kind does not have is 0.
-// Kind and outcome are numbers here, since bytes from outside may be of no kind and no outcome.
+/// The nine fields of an entry in the order of its bytes; `item` is a task or a fixed operation. One that its kind does
+/// not have is 0. Kind and outcome are numbers here, since bytes from outside may be of no kind and no outcome.
 #[derive(Clone, Copy, Default)]
-pub(crate) struct Fields {
-    slot: u32,
-    kind: u8,
-    guest: u8,
-    item: u8,
-    position: u8,
-    register: u8,
-    outcome: u8,
-    value: u16,
-    deadline: u32,
+pub struct Fields {
+    pub slot: u32,
+    pub kind: u8,
+    pub guest: u8,
+    pub item: u8,
+    pub position: u8,
+    pub register: u8,
+    pub outcome: u8,
+    pub value: u16,
+    pub deadline: u32,
 }
 
 // The fields of an entry.
@@ -164,7 +166,8 @@ impl From<Fields> for [u8; ENTRY_BYTES] {
     }
 }
 
-// The entry that the fields spell. It is total, since the rules are tested on the fields before.
+// The entry that the fields spell. It is total: of fields that break a rule of entries, an unknown kind is taken for an
+// idle grant and an unknown outcome for a refusal; `read` tests the rules before.
 impl From<Fields> for Entry {
     ghost from_gives = { λ fields entry. entry ≡ entry_from fields };
 
@@ -198,7 +201,8 @@ impl Fields {
         }
     }
 
-    // Register, outcome and value. A lawful entry that has an access has one of the three outcomes. It is part of an entry, so no conversion.
+    // Register, outcome and value. A lawful entry that has an access has one of the three outcomes.
+    // It is part of an entry, so no conversion.
     fn access(self) -> Access
         ensures { result ≡ access_from self }
     {

@@ -1,4 +1,4 @@
-// The journal of slots: entries of sixteen bytes in blocks of 512.
+//! The journal of slots: entries of sixteen bytes in blocks of 512.
 #![tactic(auto)]
 
 mod blocks;
@@ -9,3 +9,4 @@ mod text;
 
 pub use blocks::{BLOCK_BYTES, Heading, PLACES, read, write};
 pub use entries::{Access, Entry, Event, Outcome, UnknownOutcome};
+pub use fields::Fields;

@@ -1,4 +1,4 @@
-// The two sums of a part of a block.
+//! The two sums of a part of a block.
 ghost use Rattle.std.specs.Prelude.{◌≡◌, ◌+◌, ◌%◌, ◌++◌};
 ghost use Rattle.journal.specs.Bytes.{bytes2, number2};
 ghost use Rattle.journal.specs.Sums.{sum_a, sum_b};
@@ -10,7 +10,8 @@ pub(crate) struct BlockSums {
     b: u16,
 }
 
-// The sums of a part from its first byte and the sums of the rest. They are reduced by a remainder: no sum wraps, here or elsewhere.
+// The sums of a part from its first byte and the sums of the rest. They are reduced by a remainder: no sum wraps,
+// here or elsewhere.
 fn sums_with(first: u8, rest_a: u16, rest_b: u16) -> (u16, u16)
     ensures a { result.0 ≡ (first + rest_a) % 65536 }
     ensures b { result.1 ≡ ((first + rest_a) % 65536 + rest_b) % 65536 }
@@ -20,7 +21,8 @@ fn sums_with(first: u8, rest_a: u16, rest_b: u16) -> (u16, u16)
     (a as u16, b as u16)
 }
 
-// Sums A and B of a part, modulo 65,536. It calls itself once for each byte, and each call answers both sums: a rule of the project asks for this form.
+// Sums A and B of a part, modulo 65,536. It calls itself once for each byte, and each call answers both sums,
+// as they are defined: B of a part needs its A.
 fn sums(part: &[u8]) -> (u16, u16)
     ensures a { result.0 ≡ sum_a part.now }
     ensures b { result.1 ≡ sum_b part.now }

@@ -1,4 +1,4 @@
-// Entries as text, for a person. Each type has a text of its own, so no two of the functions can be one.
+//! Entries as text, for a person. Each type has a text of its own, so no two of the functions can be one.
 ghost use Rattle.std.specs.Prelude.{Some};
 ghost use Rattle.journal.specs.Text.{outcome_text, unknown_outcome_text, access_text, event_text, entry_text};
 

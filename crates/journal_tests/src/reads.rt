@@ -1,4 +1,4 @@
-// Tests of `read`.
+//! Tests of `read`.
 use crate::samples::*;
 use decline::Decline;
 use journal::{Entry, Heading, read, write};

@@ -1,4 +1,4 @@
-// Entries and blocks that the tests start from. Each kind of entry has fields of its own, so each has a function.
+//! Entries and blocks that the tests start from. Each kind of entry has fields of its own, so each has a function.
 use journal::{Access, Entry, Event, Outcome};
 use std::array;
 

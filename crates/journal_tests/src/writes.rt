@@ -1,4 +1,4 @@
-// Tests of `write`.
+//! Tests of `write`.
 use crate::samples::*;
 use decline::Decline;
 use journal::{Entry, Event, Outcome, write};

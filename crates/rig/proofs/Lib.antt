@@ -1,2 +1,3 @@
-pub mod Kept
-pub mod Whose
+pub mod RigInvariant
+pub mod Places
+pub mod Steps

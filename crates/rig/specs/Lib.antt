@@ -1,9 +1,12 @@
+pub mod Abstraction
 pub mod Access
 pub mod Calls
-pub mod Kept
+pub mod Invariants
 pub mod Parts
-pub mod Passed
+pub mod Replies
 pub mod Requests
 pub mod Slot
+pub mod SlotTables
 pub mod State
-pub mod Whole
+pub mod Step
+pub mod Text

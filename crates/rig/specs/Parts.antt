@@ -1,8 +1,9 @@
--- Which task and which operation of a plan a number names. Inside the definitions guests, tasks and operations count from 0; calls and entries count them from 1.
+-- Which task and which operation of a plan a number names. Inside the definitions guests,
+-- tasks and operations count from 0; calls and entries count them from 1.
 use Rattle.std.specs.Prelude.{ℕ, ◌+◌, ◌-◌, Bool, ◌&&◌, nat_le, List, length, take, drop, sum_by}
-use Rattle.admission.specs.declared.setup.Operation.{Operation}
-use Rattle.admission.specs.declared.setup.Task.{Task}
-use Rattle.admission.specs.Plan.{Plan, guest_at, task_at, tasks_of, task_start, cost_of, operation_at}
+use Rattle.setups.specs.declared.setup.Operation.{Operation}
+use Rattle.setups.specs.declared.setup.Task.{Task}
+use Rattle.setups.specs.Plan.{Plan, guest_at, task_at, tasks_of, task_start, cost_of, operation_at}
 
 -- task k of guest g
 abbrev pub task_of : Plan → ℕ → ℕ → Task

@@ -19,7 +19,7 @@ release_refusal s g k m =
 
 -- the deadline of a job of task k of guest g that starts now
 abbrev pub deadline_from_now : State → ℕ → ℕ → ℕ
-deadline_from_now s g k = s.passed + (task_of s.plan (g - 1) (k - 1)).deadline
+deadline_from_now s g k = s.passed + (task_of s.plan (g - 1) (k - 1)).relative_deadline
 
 -- a job of m operations of task k of guest g that starts now
 abbrev pub job_from_now : State → ℕ → ℕ → ℕ → Job
@@ -52,12 +52,12 @@ abbrev pub done_of : State → ℕ → ℕ → ℕ
 done_of s g k = (job_of s (g - 1) (k - 1)).done
 
 -- a job that is no longer pending; its start still counts for the next one
-abbrev pub withdrawn : Job → Job
-withdrawn j = record j { pending = false }
+abbrev pub withdrawn_job : Job → Job
+withdrawn_job j = record j { pending = false }
 
 -- the rig after a withdrawal that is not refused
 abbrev pub with_withdrawal : State → ℕ → ℕ → State
-with_withdrawal s g k = with_job s g k (withdrawn (job_of s (g - 1) (k - 1)))
+with_withdrawal s g k = with_job s g k (withdrawn_job (job_of s (g - 1) (k - 1)))
 
 -- why a question about guest g is refused, if it is
 abbrev pub question_refusal : State → ℕ → Option Decline

@@ -1,11 +1,12 @@
 -- One slot of a loaded rig: what it is for, what the journal says of it, and what it leaves.
-use Rattle.std.specs.Prelude.{ℕ, ◌+◌, ◌-◌, Bool, nat_lt, nat_le, not, List, slice_set, Option, Some, None, if◌then◌else◌}
+use Rattle.std.specs.Prelude.{ℕ, ◌+◌, ◌-◌, Bool, nat_lt, nat_le, not, List}
+use Rattle.std.specs.Prelude.{slice_set, Option, Some, None, if◌then◌else◌}
 use Rattle.decline.specs.declared.Decline.{Decline}
 use Rattle.decline.specs.declared.Decline.TheVariants.{SessionEnd}
 use Rattle.journal.specs.declared.entries.Event.{Event}
 use Rattle.journal.specs.declared.entries.Event.TheVariants as event
 use Rattle.journal.specs.declared.entries.Entry.{Entry}
-use Rattle.admission.specs.Plan.{operation_at}
+use Rattle.setups.specs.Plan.{operation_at}
 use Rattle.device.specs.Meaning.{Meaning}
 use Rattle.waiting.specs.Earliest.{earliest}
 use Rattle.schedule.specs.declared.turn.Turn.{Turn}
@@ -19,14 +20,18 @@ use Rattle.rig.specs.Access.{access_of, after_operation}
 use Rattle.rig.specs.Parts.{operations_of, fixed_operation}
 use Rattle.rig.specs.State.{State, jobs_of, job_of, tally_of, jobs_with, job_rank, is_pending}
 
--- the place of the job that goes first: of those that are pending the one with the nearest deadline, and of equal deadlines the least task
+-- the place of the job that goes first: of those that are pending the one with the nearest deadline,
+-- and of equal deadlines the least task
 abbrev pub first_job : List Job → Option ℕ
 first_job js = earliest is_pending job_rank js
 
--- what a slot is for that is granted to guest g, by the place of its job that goes first: the next operation of that job, or nothing
+-- what a slot is for that is granted to guest g, by the place of its job that goes first:
+-- the next operation of that job, or nothing
 abbrev pub granted_work : State → ℕ → Option ℕ → Work
 granted_work s g None = Idle (g + 1)
-granted_work s g (Some k) = let j = job_of s g k in Next (g + 1) (k + 1) (j.done + 1) (operation_at (operations_of s.plan g k) j.done) j.deadline
+granted_work s g (Some k) =
+    let j = job_of s g k in
+    Next (g + 1) (k + 1) (j.done + 1) (operation_at (operations_of s.plan g k) j.done) j.deadline
 
 -- what a slot is for, by whose turn it is
 abbrev pub work_of : State → Turn → Work
@@ -66,7 +71,11 @@ with_idle t = record t { granted = t.granted + 1; idle = t.idle + 1 }
 
 -- a tally with one more slot used, by a job that it may finish
 abbrev pub with_used : Job → Tally → Tally
-with_used j t = record t { granted = t.granted + 1; used = t.used + 1; finished = if completes j then t.finished + 1 else t.finished }
+with_used j t = record t {
+  granted = t.granted + 1;
+  used = t.used + 1;
+  finished = if completes j then t.finished + 1 else t.finished;
+}
 
 -- the jobs after a slot
 abbrev pub jobs_after : State → Work → List (List Job)
@@ -80,7 +89,8 @@ abbrev pub tallies_after : State → Work → List Tally
 tallies_after s Nothing = s.tallies
 tallies_after s (Fixed p o) = s.tallies
 tallies_after s (Idle g) = slice_set s.tallies (g - 1) (with_idle (tally_of s (g - 1)))
-tallies_after s (Next g k i o d) = slice_set s.tallies (g - 1) (with_used (job_of s (g - 1) (k - 1)) (tally_of s (g - 1)))
+tallies_after s (Next g k i o d) =
+    slice_set s.tallies (g - 1) (with_used (job_of s (g - 1) (k - 1)) (tally_of s (g - 1)))
 
 -- why a slot is refused, if it is
 abbrev pub slot_refusal : State → Option Decline
@@ -92,4 +102,6 @@ next_entry s m = record { slot = s.passed; event = event_of m (next_work s) }
 
 -- the rig after the next slot
 abbrev pub with_slot : State → State
-with_slot s = let w = next_work s in record { plan = s.plan; passed = s.passed + 1; jobs = jobs_after s w; tallies = tallies_after s w }
+with_slot s =
+    let w = next_work s in
+    record { plan = s.plan; passed = s.passed + 1; jobs = jobs_after s w; tallies = tallies_after s w }

@@ -2,24 +2,34 @@
 use Rattle.std.specs.Prelude.{ℕ, ◌+◌, Bool, false, List, [], map, replicate, slice_index_or, slice_set}
 use Rattle.std.specs.List.{range_with_len}
 use Rattle.waiting.specs.declared.Rank.{Rank}
-use Rattle.admission.specs.declared.setup.Operation.{Operation}
-use Rattle.admission.specs.declared.setup.Task.{Task}
-use Rattle.admission.specs.Plan.{Plan}
+use Rattle.setups.specs.declared.setup.Operation.{Operation}
+use Rattle.setups.specs.declared.setup.Task.{Task}
+use Rattle.setups.specs.Plan.{Plan}
 use Rattle.schedule.specs.Session.{Session}
+use Rattle.setups.specs.declared.limits.TheConstants.{MOST_GUESTS, MOST_GUEST_TASKS}
 use Rattle.rig.specs.declared.job.Job.{Job}
 use Rattle.rig.specs.declared.tally.Tally.{Tally}
 
--- a loaded rig: its plan, the number of slots that have passed, the job of each task by guest and task, and the tally of each guest
+-- a loaded rig: its plan, the number of slots that have passed, the job of each task by guest and task,
+-- and the tally of each guest
 pub record State : Type 0 where
   pub plan : Plan
   pub passed : ℕ
   pub jobs : List (List Job)
   pub tallies : List Tally
 
--- a loaded rig by the session of its servers, which has the first parts of the plan and the slots passed, and by what is kept beside them
+-- a loaded rig by the session of its servers, which has the first parts of the plan and the slots passed,
+-- and by what is kept beside them
 abbrev pub state_by_parts : Session → List Operation → List Task → List Operation → List (List Job) → List Tally → State
 state_by_parts s fixed tasks operations jobs tallies = record {
-  plan = record { session = s.slots; table = s.table; fixed = fixed; guests = s.guests; tasks = tasks; operations = operations };
+  plan = record {
+    session = s.slots;
+    table = s.table;
+    fixed = fixed;
+    guests = s.guests;
+    tasks = tasks;
+    operations = operations;
+  };
   passed = s.passed;
   jobs = jobs;
   tallies = tallies;
@@ -31,7 +41,7 @@ job_at_start k = record { task = k + 1; pending = false; size = 0; done = 0; dea
 
 -- the jobs of a guest before its first one
 abbrev pub row_at_start : List Job
-row_at_start = map job_at_start (range_with_len 0 8)
+row_at_start = map job_at_start (range_with_len 0 MOST_GUEST_TASKS)
 
 -- a tally before the first slot; it also stands past the end of a list
 abbrev pub no_tally : Tally
@@ -43,7 +53,12 @@ no_job = record { task = 0; pending = false; size = 0; done = 0; deadline = 0; n
 
 -- a rig that has just been loaded with a plan
 abbrev pub state_at_load : Plan → State
-state_at_load p = record { plan = p; passed = 0; jobs = replicate 16 row_at_start; tallies = replicate 16 no_tally }
+state_at_load p = record {
+  plan = p;
+  passed = 0;
+  jobs = replicate MOST_GUESTS row_at_start;
+  tallies = replicate MOST_GUESTS no_tally;
+}
 
 -- the jobs of guest g among those of all
 abbrev pub row_at : List (List Job) → ℕ → List Job

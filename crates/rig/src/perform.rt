@@ -1,4 +1,4 @@
-// One operation at a device.
+//! One operation at a device.
 ghost use Rattle.std.specs.Prelude.{◌≡◌};
 ghost use Rattle.rig.specs.Access.{access_of, after_operation};
 
@@ -6,7 +6,7 @@ use admission::Operation;
 use device::Device;
 use journal::{Access, Outcome};
 
-// Puts an operation to a device, and answers how the device took it.
+/// Puts an operation to a device, and answers how the device took it.
 pub(crate) fn perform<D: Device>(device: &mut D, operation: Operation) -> Access
     ensures access { result ≡ access_of (D.meaning device.old) operation }
     ensures after { D.meaning device.new ≡ after_operation (D.meaning device.old) operation }

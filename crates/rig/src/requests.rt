@@ -1,34 +1,36 @@
-// What guests ask of a loaded rig's jobs.
+//! What guests ask of a loaded rig's jobs.
 ghost use Rattle.std.specs.Prelude.{◌≡◌, ◌-◌, ◌<◌, ◌≤◌, IfOk};
-ghost use Rattle.admission.specs.Plan.{plan_of};
+ghost use Rattle.setups.specs.Plan.{plan_of};
 ghost use Rattle.rig.specs.State.{job_at, rows_with};
-ghost use Rattle.rig.specs.Kept.{PlanKept, JobsKept, state_of_jobs, ComesTo};
+ghost use Rattle.rig.specs.Invariants.{PlanInvariant, JobsInvariant, state_of_jobs, AnswersUnless};
 ghost use Rattle.rig.specs.Parts.{is_guest, is_task};
-ghost use Rattle.rig.specs.Requests.{release_refusal, deadline_from_now, job_from_now, withdraw_refusal, done_of, withdrawn};
+ghost use Rattle.rig.specs.Requests.{release_refusal, deadline_from_now, job_from_now};
+ghost use Rattle.rig.specs.Requests.{withdraw_refusal, done_of, withdrawn_job};
 
 use crate::job::Job;
 use crate::jobs::{Jobs, rows_with};
 use crate::parts::task_of;
 use admission::Setup;
-use deadlines::deadline;
+use deadlines::absolute_deadline;
 use decline::Decline;
+use setups::MOST_SLOTS;
 
-// Whether there is a guest of this number.
+/// Whether there is a guest of this number.
 pub(crate) fn is_guest(setup: &Setup<'_>, guest: u32) -> bool
     ensures { result ≡ is_guest (plan_of setup.now) guest }
 {
     1 <= guest && guest as usize <= setup.guests.len()
 }
 
-// Whether there is a guest of this number with a task of that number.
+/// Whether there is a guest of this number with a task of that number.
 fn is_task(setup: &Setup<'_>, guest: u32, task: u32) -> bool
     ensures { result ≡ is_task (plan_of setup.now) guest task }
 {
     is_guest(setup, guest) && 1 <= task && task <= setup.guests[guest as usize - 1].task_count
 }
 
-// A job released: its deadline, and the jobs with it.
-#[tactic(auto, using(crate::proofs::Kept::jobs_kept_with))]
+/// A job released: its deadline, and the jobs with it.
+#[tactic(auto, using(crate::proofs::RigInvariant::jobs_invariant_with))]
 pub(crate) fn release_with(
     setup: &Setup<'_>,
     passed: u32,
@@ -37,12 +39,17 @@ pub(crate) fn release_with(
     task: u32,
     operations: u32,
 ) -> Result<(u32, Jobs), Decline>
-    requires plan { PlanKept (plan_of setup.now) }
-    requires passed { passed ≤ 16777216 }
-    requires jobs { JobsKept (plan_of setup.now) jobs }
-    ensures answer { ComesTo result (release_refusal (state_of_jobs (plan_of setup.now) passed jobs) guest task operations) (λ r. r.0 ≡ deadline_from_now (state_of_jobs (plan_of setup.now) passed jobs) guest task) }
-    ensures jobs { IfOk result (λ r. r.1 ≡ rows_with jobs (guest - 1) (task - 1) (job_from_now (state_of_jobs (plan_of setup.now) passed jobs) guest task operations)) }
-    ensures kept { IfOk result (λ r. JobsKept (plan_of setup.now) r.1) }
+    requires plan { PlanInvariant (plan_of setup.now) }
+    requires passed { passed ≤ MOST_SLOTS }
+    requires jobs { JobsInvariant (plan_of setup.now) jobs }
+    ensures answer { AnswersUnless result
+        (release_refusal (state_of_jobs (plan_of setup.now) passed jobs) guest task operations)
+        (λ r. r.0 ≡ deadline_from_now (state_of_jobs (plan_of setup.now) passed jobs) guest task) }
+    ensures jobs { IfOk result
+        (λ r. r.1
+        ≡ rows_with jobs (guest - 1) (task - 1)
+        (job_from_now (state_of_jobs (plan_of setup.now) passed jobs) guest task operations)) }
+    ensures invariant { IfOk result (λ r. JobsInvariant (plan_of setup.now) r.1) }
 {
     if !is_task(setup, guest, task) {
         return Err(Decline::NotFound {
@@ -72,7 +79,7 @@ pub(crate) fn release_with(
             task: u64::from(task),
         });
     }
-    let deadline = deadline(&limits, passed) as u32;
+    let deadline = absolute_deadline(&limits, passed) as u32;
     let released = Job {
         task: task as u8,
         pending: true,
@@ -81,22 +88,24 @@ pub(crate) fn release_with(
         deadline,
         next_start: passed + limits.separation,
     };
-    Ok((deadline, rows_with(jobs, g, k, released)?))
+    Ok((deadline, rows_with(jobs, g, k, released)))
 }
 
-// A job withdrawn: how many of its operations had their slot, and the jobs with it no longer pending.
-#[tactic(auto, using(crate::proofs::Kept::jobs_kept_with))]
+/// A job withdrawn: how many of its operations had their slot, and the jobs with it no longer pending.
+#[tactic(auto, using(crate::proofs::RigInvariant::jobs_invariant_with))]
 pub(crate) fn withdraw_with(
     setup: &Setup<'_>,
     jobs: Jobs,
     guest: u32,
     task: u32,
 ) -> Result<(u8, Jobs), Decline>
-    requires plan { PlanKept (plan_of setup.now) }
-    requires jobs { JobsKept (plan_of setup.now) jobs }
-    ensures answer { ComesTo result (withdraw_refusal (state_of_jobs (plan_of setup.now) 0 jobs) guest task) (λ r. r.0 ≡ done_of (state_of_jobs (plan_of setup.now) 0 jobs) guest task) }
-    ensures jobs { IfOk result (λ r. r.1 ≡ rows_with jobs (guest - 1) (task - 1) (withdrawn (job_at jobs (guest - 1) (task - 1)))) }
-    ensures kept { IfOk result (λ r. JobsKept (plan_of setup.now) r.1) }
+    requires plan { PlanInvariant (plan_of setup.now) }
+    requires jobs { JobsInvariant (plan_of setup.now) jobs }
+    ensures answer { AnswersUnless result (withdraw_refusal (state_of_jobs (plan_of setup.now) 0 jobs) guest task)
+        (λ r. r.0 ≡ done_of (state_of_jobs (plan_of setup.now) 0 jobs) guest task) }
+    ensures jobs { IfOk result
+        (λ r. r.1 ≡ rows_with jobs (guest - 1) (task - 1) (withdrawn_job (job_at jobs (guest - 1) (task - 1)))) }
+    ensures invariant { IfOk result (λ r. JobsInvariant (plan_of setup.now) r.1) }
 {
     if !is_task(setup, guest, task) {
         return Err(Decline::NotFound {
@@ -117,5 +126,5 @@ pub(crate) fn withdraw_with(
         pending: false,
         ..job
     };
-    Ok((job.done, rows_with(jobs, g, k, withdrawn)?))
+    Ok((job.done, rows_with(jobs, g, k, withdrawn)))
 }

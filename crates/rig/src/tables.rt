@@ -1,30 +1,27 @@
-// What a loaded rig holds.
-ghost use Rattle.std.specs.Prelude.{◌≡◌, ◌-◌, ◌≤◌, take, length, MatchResult};
+//! What a loaded rig holds.
+ghost use Rattle.std.specs.Prelude.{◌≡◌, ◌-◌, ◌≤◌, take, length, IfOk, MatchResult};
 ghost use Rattle.decline.specs.Refusals.{by_numbers};
-ghost use Rattle.admission.specs.Plan.{plan_of};
+ghost use Rattle.setups.specs.Plan.{plan_of, ValuesFit};
 ghost use Rattle.admission.specs.Verdict.{Accepted, Declined};
 ghost use Rattle.rig.specs.State.{state_at_load, tally_of};
-ghost use Rattle.rig.specs.Requests.{release_refusal, deadline_from_now, with_release, withdraw_refusal, done_of, with_withdrawal, question_refusal};
+ghost use Rattle.rig.specs.Requests.{release_refusal, deadline_from_now, with_release};
+ghost use Rattle.rig.specs.Requests.{withdraw_refusal, done_of, with_withdrawal, question_refusal};
 ghost use Rattle.rig.specs.Slot.{slot_refusal, next_work, with_slot};
-ghost use Rattle.rig.specs.Calls.{answer_unless, change_unless};
+ghost use Rattle.rig.specs.declared.reply.Reply.TheVariants.{Released, Withdrawn, Told};
+ghost use Rattle.rig.specs.Replies.{reply_numbers, replied};
+ghost use Rattle.rig.specs.Step.{answer_unless, change_unless};
 
 use crate::jobs::{JobTable, jobs_at_start};
-use crate::passed::{Passed, Tallies};
 use crate::requests::{is_guest, release_with, withdraw_with};
+use crate::slot_tables::SlotTables;
 use crate::slots::pass;
-use crate::tally::Tally;
+use crate::tally::{NO_TALLY, Tallies, Tally};
 use crate::work::Work;
 use admission::{Operation, Setup, Task};
 use decline::Decline;
 use schedule::Servers;
+use setups::{MOST_FIXED_OPERATIONS, MOST_GUESTS, MOST_OPERATIONS, MOST_TASKS, array_with};
 use std::marker::Model;
-
-// How many fixed operations, tasks and operations of tasks a setup has at most.
-const FIXED: usize = 32;
-
-const TASKS: usize = 128;
-
-const OPERATIONS: usize = 2048;
 
 // What fills the places past the last operation.
 const NO_OPERATION: Operation = Operation::Read { register: 0 };
@@ -33,58 +30,50 @@ const NO_OPERATION: Operation = Operation::Read { register: 0 };
 const NO_TASK: Task = Task {
     separation: 0,
     cost: 0,
-    deadline: 0,
+    relative_deadline: 0,
 };
 
-// A tally before the first slot.
-const NO_TALLY: Tally = Tally {
-    granted: 0,
-    used: 0,
-    idle: 0,
-    finished: 0,
-};
-
-// An array that begins with these items, and goes on with one that plays no part.
-fn array_with<T: Copy, const N: usize>(items: &[T], rest: T) -> [T; N]
-    requires { length items.now ≤ N }
-    ensures { take (length items.now) result ≡ items.now }
-{
-    let mut array = [rest; N];
-    array[..items.len()].copy_from_slice(items);
-    array
-}
-
-// What a loaded rig holds, in plain arrays of which the first places are used: the setup, of which the servers hold the session, the table and the guests;
-// the job of each task; and the tally of each guest.
+/// What a loaded rig holds: the setup, the job of each task and the tally of each guest.
 #[derive(Drop)]
 pub(crate) struct Tables {
+    // The servers, which hold the session, the slot table and the guests of the setup.
     servers: Servers,
-    fixed: [Operation; FIXED],
+    // The other parts of the setup: of each array the first places are used, as many as the number beside it says.
+    fixed: [Operation; MOST_FIXED_OPERATIONS],
     fixed_count: usize,
-    tasks: [Task; TASKS],
+    tasks: [Task; MOST_TASKS],
     task_count: usize,
-    operations: [Operation; OPERATIONS],
+    operations: [Operation; MOST_OPERATIONS],
     operation_count: usize,
+    // The job of each task, by guest and task, and the tally of each guest.
     jobs: JobTable,
     tallies: Tallies,
 }
 
 impl Model for Tables {
     ghost use Rattle.std.specs.Prelude.{◌≤◌, take};
+    ghost use Rattle.setups.specs.declared.limits.TheConstants.{MOST_FIXED_OPERATIONS, MOST_TASKS, MOST_OPERATIONS};
     ghost use Rattle.rig.specs.State.{State, state_by_parts};
-    ghost use Rattle.rig.specs.Kept.{IsWithinSession, StateKept};
+    ghost use Rattle.rig.specs.Invariants.{IsWithinSession, StateInvariant};
 
     ghost Value = { State };
 
-    ghost view = { λ t. state_by_parts t.servers (take t.fixed_count t.fixed) (take t.task_count t.tasks) (take t.operation_count t.operations) t.jobs.rows t.tallies };
+    ghost view = { λ t. state_by_parts t.servers (take t.fixed_count t.fixed) (take t.task_count t.tasks)
+        (take t.operation_count t.operations) t.jobs.rows t.tallies };
 
-    ghost invariant = { λ t. (t.fixed_count ≤ 32) × (t.task_count ≤ 128) × (t.operation_count ≤ 2048) × IsWithinSession t.servers × StateKept (state_by_parts t.servers (take t.fixed_count t.fixed) (take t.task_count t.tasks) (take t.operation_count t.operations) t.jobs.rows t.tallies) };
+    ghost invariant = { λ t. (t.fixed_count ≤ MOST_FIXED_OPERATIONS) × (t.task_count ≤ MOST_TASKS)
+        × (t.operation_count ≤ MOST_OPERATIONS) × IsWithinSession t.servers
+        × StateInvariant (state_by_parts t.servers (take t.fixed_count t.fixed) (take t.task_count t.tasks)
+        (take t.operation_count t.operations) t.jobs.rows t.tallies) };
 }
 
 impl Tables {
-    // The tables of a setup at load, for a device of so many registers.
+    /// The tables of a setup at load, for a device of so many registers. It refuses what `judge` refuses.
     pub(crate) fn new(setup: &Setup<'_>, registers: u32) -> Result<Tables, Decline>
-        ensures { MatchResult (by_numbers result) (λ s. Accepted (plan_of setup.now) registers × (s ≡ state_at_load (plan_of setup.now))) (λ m. Declined (plan_of setup.now) registers m) }
+        ensures tables { MatchResult (by_numbers result)
+            (λ s. Accepted (plan_of setup.now) registers × (s ≡ state_at_load (plan_of setup.now)))
+            (λ m. Declined (plan_of setup.now) registers m) }
+        ensures values { IfOk result (λ _. ValuesFit (plan_of setup.now)) }
     {
         let servers = Servers::new(setup, registers)?;
         Ok(Tables {
@@ -98,11 +87,11 @@ impl Tables {
             jobs: JobTable {
                 rows: jobs_at_start(),
             },
-            tallies: [NO_TALLY; 16],
+            tallies: [NO_TALLY; MOST_GUESTS],
         })
     }
 
-    // The setup that is kept.
+    /// The setup that is loaded.
     fn setup(&self) -> Setup<'_>
         ensures { plan_of result ≡ self.now.plan }
     {
@@ -116,17 +105,20 @@ impl Tables {
         }
     }
 
-    // How many slots have passed.
+    /// How many slots have passed.
     pub(crate) fn passed(&self) -> u32
         ensures { result ≡ self.now.passed }
     {
         self.servers.passed()
     }
 
-    // Releases a job, and answers its deadline.
+    /// Releases a job, and answers its deadline.
     pub(crate) fn release(&mut self, guest: u32, task: u32, operations: u32) -> Result<u32, Decline>
-        ensures answer { by_numbers result ≡ answer_unless (release_refusal self.old guest task operations) (deadline_from_now self.old guest task) }
-        ensures after { self.new ≡ change_unless (release_refusal self.old guest task operations) (with_release self.old guest task operations) self.old }
+        ensures answer { replied Released (by_numbers result)
+            ≡ answer_unless (release_refusal self.old guest task operations)
+            (reply_numbers (Released (deadline_from_now self.old guest task))) }
+        ensures after { self.new ≡ change_unless (release_refusal self.old guest task operations)
+            (with_release self.old guest task operations) self.old }
     {
         let setup = self.setup();
         let (deadline, jobs) = release_with(
@@ -141,10 +133,13 @@ impl Tables {
         Ok(deadline)
     }
 
-    // Withdraws a job, and answers how many of its operations had their slot.
+    /// Withdraws a job, and answers how many of its operations had their slot.
     pub(crate) fn withdraw(&mut self, guest: u32, task: u32) -> Result<u8, Decline>
-        ensures answer { by_numbers result ≡ answer_unless (withdraw_refusal self.old guest task) (done_of self.old guest task) }
-        ensures after { self.new ≡ change_unless (withdraw_refusal self.old guest task) (with_withdrawal self.old guest task) self.old }
+        ensures answer { replied Withdrawn (by_numbers result)
+            ≡ answer_unless (withdraw_refusal self.old guest task)
+            (reply_numbers (Withdrawn (done_of self.old guest task))) }
+        ensures after { self.new
+            ≡ change_unless (withdraw_refusal self.old guest task) (with_withdrawal self.old guest task) self.old }
     {
         let setup = self.setup();
         let (done, jobs) = withdraw_with(&setup, self.jobs.rows, guest, task)?;
@@ -152,9 +147,10 @@ impl Tables {
         Ok(done)
     }
 
-    // The tally of a guest.
+    /// The tally of a guest.
     pub(crate) fn question(&self, guest: u32) -> Result<Tally, Decline>
-        ensures { by_numbers result ≡ answer_unless (question_refusal self.now guest) (tally_of self.now (guest - 1)) }
+        ensures { replied Told (by_numbers result)
+            ≡ answer_unless (question_refusal self.now guest) (reply_numbers (Told (tally_of self.now (guest - 1)))) }
     {
         if !is_guest(&self.setup(), guest) {
             return Err(Decline::NotFound { guest, place: 0 });
@@ -162,8 +158,8 @@ impl Tables {
         Ok(self.tallies[guest as usize - 1])
     }
 
-    // Passes the next slot, and answers what it is for.
-    #[tactic(auto, using(crate::proofs::Kept::tallies_kept_on))]
+    /// Passes the next slot, and answers what it is for.
+    #[tactic(auto, using(crate::proofs::RigInvariant::tallies_invariant_on))]
     pub(crate) fn pass_slot(&mut self) -> Result<Work, Decline>
         ensures answer { by_numbers result ≡ answer_unless (slot_refusal self.old) (next_work self.old) }
         ensures after { self.new ≡ change_unless (slot_refusal self.old) (with_slot self.old) self.old }
@@ -171,11 +167,11 @@ impl Tables {
         let slot = self.servers.passed();
         let turn = self.servers.pass_slot()?;
         let setup = self.setup();
-        let Passed {
+        let SlotTables {
             work,
             jobs,
             tallies,
-        } = pass(&setup, slot, self.jobs.rows, self.tallies, turn)?;
+        } = pass(&setup, slot, self.jobs.rows, self.tallies, turn);
         self.jobs.rows = jobs;
         self.tallies = tallies;
         Ok(work)

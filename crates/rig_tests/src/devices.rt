@@ -1,12 +1,14 @@
-// Tests of what the slots do at the device.
-use crate::samples::*;
+//! Tests of what the slots do at the device.
+use crate::rigs::*;
 use admission::{Operation, Setup};
 use decline::Decline;
-use device::{Cap, FilterWheel, LampPanel, Pair};
+use device::{Cap, Device, FilterWheel, LampPanel, Pair};
 use rig::Rig;
+use samples::{guest, read, task, write};
 use std::test::Fail;
 
-// A rig whose one guest has two slots of every four, two registers, and a task of three operations; the fixed operation writes to the first of them.
+// A rig whose one guest has two slots of every four, two registers, and a task of three operations; the fixed operation
+// writes to the first of them.
 fn with_one_guest(table: &[u8], operations: &[Operation; 3]) -> Result<Rig<LampPanel>, Decline> {
     loaded(&Setup {
         session: 40,
@@ -46,6 +48,16 @@ fn a_guest_sees_what_a_fixed_operation_wrote_in_its_window(rt: HostRuntime) -> R
             unassigned(3),
         ],
     );
+    Ok(())
+}
+
+#[test]
+fn the_device_comes_back_as_the_session_left_it(rt: HostRuntime) -> Result<(), Fail> {
+    let mut rig = with_one_guest(&[0], &[write(0, 9), read(0), read(0)])?;
+    assert_eq!(rt; rig.release(1, 1, 1), Ok(40));
+    goes_on(&rt, &mut rig, &[used(0, 1, (1, 1), written(0, 9), 40)]);
+    let mut panel = rig.into_device();
+    assert_eq!(rt; panel.read(0), Ok(9));
     Ok(())
 }
 

@@ -1,9 +1,10 @@
-// Tests of which job a slot goes to.
-use crate::samples::*;
+//! Tests of which job a slot goes to.
+use crate::rigs::*;
 use admission::Setup;
 use decline::Decline;
 use device::LampPanel;
 use rig::Rig;
+use samples::{guest, task, write};
 use std::test::Fail;
 
 // A rig whose one guest has nine slots of every ten, and three tasks of two writes, each to a register of its own.
@@ -50,7 +51,8 @@ fn the_nearest_deadline_goes_first_and_the_least_task_between_equal_ones(
     Ok(())
 }
 
-// The job of task 1 has its first operation, waits for that of task 2, and goes on; what is left of it when it is withdrawn never comes.
+// The job of task 1 has its first operation, waits for those of tasks 2 and 3, and goes on; what is left of a job when
+// it is withdrawn never comes.
 #[test]
 fn a_later_job_with_a_nearer_deadline_goes_before(rt: HostRuntime) -> Result<(), Fail> {
     let mut rig = with_three_tasks()?;
@@ -75,7 +77,8 @@ fn a_later_job_with_a_nearer_deadline_goes_before(rt: HostRuntime) -> Result<(),
     Ok(())
 }
 
-// Guest 2 goes first up to its boundary at slot 10, though its job is due later. From then on both have theirs at slot 20.
+// Guest 2 goes first up to its boundary at slot 10, though its job is due later. From then on both have theirs at slot
+// 20.
 #[test]
 fn the_nearest_boundary_goes_first_whatever_the_jobs(rt: HostRuntime) -> Result<(), Fail> {
     let mut rig = loaded(&Setup {

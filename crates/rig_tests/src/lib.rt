@@ -1,4 +1,5 @@
-// Tests of rigs and of whole runs: each refusal at its edge, sessions, jobs, devices, guests apart from each other, and setup A worked out by hand.
+//! Tests of rigs and of whole runs: each refusal at its edge, sessions, jobs, devices, guests apart from each other,
+//! and setup A worked out by hand.
 #![tactic(auto)]
 
 #[cfg(test)]
@@ -10,6 +11,6 @@ mod jobs;
 #[cfg(test)]
 mod refusals;
 #[cfg(test)]
-mod samples;
+mod rigs;
 #[cfg(test)]
 mod setup_a;

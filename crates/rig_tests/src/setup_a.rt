@@ -1,22 +1,16 @@
-// Tests of setup A over a lamp panel, worked out by hand.
-use crate::samples::*;
+//! Tests of setup A over a lamp panel, worked out by hand.
+use crate::rigs::*;
 use decline::Decline;
 use device::LampPanel;
 use journal::BLOCK_BYTES;
 use rig::{Rig, Tally};
+use samples::SETUP_A;
 use std::process::Abort;
 use std::test::Fail;
 
-// A rig around a lamp panel with setup A.
-fn rig_a() -> Result<Rig<LampPanel>, Decline> {
-    let mut rig = Rig::new(LampPanel::new());
-    rig.load(&SETUP_A)?;
-    Ok(rig)
-}
-
 #[test]
 fn guest_1_has_its_job_in_slots_1_and_2(rt: HostRuntime) -> Result<(), Fail> {
-    let mut rig = rig_a()?;
+    let mut rig = loaded(&SETUP_A)?;
     assert_eq!(rt; rig.release(1, 1, 2), Ok(10));
     goes_on(
         &rt,
@@ -46,7 +40,7 @@ fn guest_1_has_its_job_in_slots_1_and_2(rt: HostRuntime) -> Result<(), Fail> {
 
 #[test]
 fn a_slot_has_its_bytes_in_the_journal(rt: HostRuntime) -> Result<(), Fail> {
-    let mut rig = rig_a()?;
+    let mut rig = loaded(&SETUP_A)?;
     assert_eq!(rt; rig.release(1, 1, 2), Ok(10));
     let entries = [rig.slot()?, rig.slot()?];
     let mut block = [0; BLOCK_BYTES];
@@ -66,7 +60,7 @@ fn counts(rt: &impl Abort, rig: &mut Rig<LampPanel>, slots: u32, tallies: [Tally
 
 #[test]
 fn tallies_count_slots_and_finished_jobs(rt: HostRuntime) -> Result<(), Fail> {
-    let mut rig = rig_a()?;
+    let mut rig = loaded(&SETUP_A)?;
     assert_eq!(rt; rig.release(1, 1, 2), Ok(10));
     assert_eq!(rt; rig.release(2, 1, 3), Ok(20));
     for (slots, tallies) in [
@@ -84,7 +78,7 @@ fn tallies_count_slots_and_finished_jobs(rt: HostRuntime) -> Result<(), Fail> {
 
 #[test]
 fn a_withdrawn_job_is_not_finished(rt: HostRuntime) -> Result<(), Fail> {
-    let mut rig = rig_a()?;
+    let mut rig = loaded(&SETUP_A)?;
     assert_eq!(rt; rig.release(1, 1, 2), Ok(10));
     pass(&rt, &mut rig, 2);
     assert_eq!(rt; rig.withdraw(1, 1), Ok(1));

@@ -1,22 +1,26 @@
 -- What is true of the tables of a loaded rig after any calls.
-use Rattle.std.proofs.Common.{◌≡◌, refl, ◌∙◌, subst, ℕ, ◌-◌, ◌<◌, ◌≤◌, true, List, [], ◌∷◌, length, Option, Some, None, arith}
+use Rattle.std.proofs.Common.{◌≡◌, refl, sym, ◌∙◌, subst, ℕ, ◌-◌, ◌<◌, ◌≤◌, true}
+use Rattle.std.proofs.Common.{List, [], ◌∷◌, length, Option, Some, None, arith}
 use Rattle.std.proofs.lemmas.Grind.{common_steps}
 use Rattle.std.proofs.lemmas.List.{length-set, length-replicate, get_or-replicate}
 use Rattle.std.proofs.lemmas.List.FromFn.{length-map-range_with_len}
 use Rattle.schedule.specs.declared.turn.Turn.{Turn}
 use Rattle.schedule.specs.declared.turn.Turn.TheVariants as turn
 use Rattle.schedule.specs.Session.{turn_at}
-use Rattle.admission.specs.Plan.{Plan, guest_at}
+use Rattle.setups.specs.Plan.{Plan, guest_at}
 use Rattle.rig.specs.declared.job.Job.{Job}
 use Rattle.rig.specs.Parts.{task_of}
-use Rattle.rig.specs.State.{State, state_at_load, job_at_start, row_at_start, no_tally, row_at, rows_with, jobs_of, job_of}
-use Rattle.rig.specs.Slot.{first_job, granted_work, work_of, with_operation, jobs_after, slot_refusal, with_slot}
-use Rattle.rig.specs.Requests.{release_refusal, withdraw_refusal, with_job, with_release, with_withdrawal, job_from_now, withdrawn}
-use Rattle.rig.specs.Kept.{JobKept, JobsKept}
-use Rattle.rig.proofs.Kept.{each_set, jobs_kept_with, jobs_kept_at_start, cost_within}
-use Rattle.runs.specs.Asks.{Ask, load, release, withdraw, question, slot, Exchange}
-use Rattle.runs.proofs.Loaded.{state_after, state_end}
-use Rattle.runs.proofs.Entries.{holds_unless}
+use Rattle.rig.specs.State.{State, state_at_load, job_at_start, row_at_start}
+use Rattle.rig.specs.State.{no_tally, row_at, rows_with, jobs_of, job_of}
+use Rattle.rig.specs.Slot.{first_job, granted_work, work_of, with_operation, jobs_after, with_slot}
+use Rattle.rig.specs.Requests.{release_refusal, with_job, with_release, with_withdrawal, job_from_now, withdrawn_job}
+use Rattle.rig.specs.Invariants.{JobInvariant, JobsInvariant}
+use Rattle.rig.proofs.RigInvariant.{each_set, jobs_invariant_with, jobs_invariant_at_start, cost_within}
+use Rattle.rig.specs.Calls.{PlanCall}
+use Rattle.runs.specs.Traces.{Exchange}
+use Rattle.rig.specs.Step.{effect, state_after}
+use Rattle.runs.proofs.Loaded.{state_end}
+use Rattle.runs.proofs.Effects.{Kind, slots, releases, withdraws, keeps, kind, holds_unless}
 use Rattle.runs.proofs.Requests.{releasable}
 use Rattle.runs.proofs.Slots.{first_pending, granted_jobs, length_tallies}
 
@@ -24,7 +28,7 @@ use Rattle.runs.proofs.Slots.{first_pending, granted_jobs, length_tallies}
 pub record RowsReady (p : Plan) (rows : List (List Job)) : Type 0 where
   pub wide : length rows ≡ 16
   pub deep : (g : ℕ) → g < 16 → length (row_at rows g) ≡ 8
-  pub kept : JobsKept p rows
+  pub kept : JobsInvariant p rows
 
 -- a loaded rig has this plan, its jobs are ready, and it has 16 tallies
 pub record Ready (p : Plan) (s : State) : Type 0 where
@@ -32,47 +36,61 @@ pub record Ready (p : Plan) (s : State) : Type 0 where
   pub rows : RowsReady p s.jobs
   pub counts : length s.tallies ≡ 16
 
--- what is known of a pending job of task k of guest g, both from 0: the guest has the task, an operation is not done, and there are no more than the task costs
+-- what is known of a pending job of task k of guest g, both from 0: the guest has the task, an operation is not done,
+-- and there are no more than the task costs
 pub record JobReady (p : Plan) (g k : ℕ) (j : Job) : Type 0 where
   pub task : k < (guest_at p.guests g).task_count
   pub undone : j.done < j.size
   pub cheap : j.size ≤ (task_of p g k).cost
 
 -- each pending job of a rig that is ready is ready
-pub job_ready : (p : Plan) (s : State) (g k : ℕ) → Ready p s → (job_of s g k).pending ≡ true → JobReady p g k (job_of s g k)
-unfolding JobsKept
+pub job_ready : (p : Plan) (s : State) (g k : ℕ) → Ready p s → (job_of s g k).pending ≡ true
+    → JobReady p g k (job_of s g k)
+unfolding JobsInvariant
 job_ready p s g k ready pending =
     let (undone, cheap) = ready.rows.kept g k pending in
     record { task = cost_within p g k (omega (arith, undone, cheap)); undone = undone; cheap = cheap }
 
 -- jobs stay ready when one is set that is kept
-rows_ready_with : (p : Plan) (rows : List (List Job)) (g k : ℕ) (j : Job) → RowsReady p rows → JobKept p g k j → RowsReady p (rows_with rows g k j)
+rows_ready_with : (p : Plan) (rows : List (List Job)) (g k : ℕ) (j : Job) → RowsReady p rows → JobInvariant p g k j
+    → RowsReady p (rows_with rows g k j)
 rows_ready_with p rows g k j ready new = record {
   wide = length-set rows g _ ∙ ready.wide;
-  deep = each_set rows g _ [] (λ h row. h < 16 → length row ≡ 8) ready.deep (λ l. length-set (row_at rows g) k j ∙ ready.deep g l);
-  kept = jobs_kept_with p rows g k j ready.kept new;
+  deep = each_set rows g _ [] (λ h row. h < 16 → length row ≡ 8) ready.deep
+      (λ l. length-set (row_at rows g) k j ∙ ready.deep g l);
+  kept = jobs_invariant_with p rows g k j ready.kept new;
 }
 
 -- a rig stays ready when a job is put in a place that is kept
-with_job_ready : (p : Plan) (s : State) (g k : ℕ) (j : Job) → Ready p s → JobKept p (g - 1) (k - 1) j → Ready p (with_job s g k j)
-with_job_ready p s g k j ready new = record { plan = ready.plan; rows = rows_ready_with p s.jobs (g - 1) (k - 1) j ready.rows new; counts = ready.counts }
+with_job_ready : (p : Plan) (s : State) (g k : ℕ) (j : Job) → Ready p s → JobInvariant p (g - 1) (k - 1) j
+    → Ready p (with_job s g k j)
+with_job_ready p s g k j ready new = record {
+  plan = ready.plan;
+  rows = rows_ready_with p s.jobs (g - 1) (k - 1) j ready.rows new;
+  counts = ready.counts;
+}
 
 -- a release that is not refused leaves a rig ready
-release_ready : (p : Plan) (s : State) (g k m : ℕ) → Ready p s → release_refusal s g k m ≡ None → Ready p (with_release s g k m)
+release_ready : (p : Plan) (s : State) (g k m : ℕ) → Ready p s → release_refusal s g k m ≡ None
+    → Ready p (with_release s g k m)
 release_ready p s g k m ready none =
     let may = releasable s g k m none in
-    with_job_ready p s g k (job_from_now s g k m) ready (λ pending. (omega (arith, may.some), subst (λ q. m ≤ (task_of q (g - 1) (k - 1)).cost) ready.plan may.cheap))
+    with_job_ready p s g k (job_from_now s g k m) ready
+    (λ pending. (omega (arith, may.some), subst (λ q. m ≤ (task_of q (g - 1) (k - 1)).cost) ready.plan may.cheap))
 
 -- a withdrawal leaves a rig ready
 withdrawal_ready : (p : Plan) (s : State) (g k : ℕ) → Ready p s → Ready p (with_withdrawal s g k)
-withdrawal_ready p s g k ready = with_job_ready p s g k (withdrawn (job_of s (g - 1) (k - 1))) ready (λ pending. absurd cc)
+withdrawal_ready p s g k ready =
+    with_job_ready p s g k (withdrawn_job (job_of s (g - 1) (k - 1))) ready (λ pending. absurd cc)
 
 -- a slot that is granted leaves jobs ready
-granted_ready : (p : Plan) (s : State) (g : ℕ) (r : Option ℕ) → Ready p s → first_job (jobs_of s g) ≡ r → RowsReady p (jobs_after s (granted_work s g r))
+granted_ready : (p : Plan) (s : State) (g : ℕ) (r : Option ℕ) → Ready p s → first_job (jobs_of s g) ≡ r
+    → RowsReady p (jobs_after s (granted_work s g r))
 granted_ready p s g None ready is = ready.rows
 granted_ready p s g (Some k) ready is =
     let job = job_ready p s g k ready (first_pending s g k is) in
-    rw (granted_jobs s g k) (rows_ready_with p s.jobs g k (with_operation (job_of s g k)) ready.rows (λ more. (grind (arith, common_steps), job.cheap)))
+    rw (granted_jobs s g k) (rows_ready_with p s.jobs g k (with_operation (job_of s g k)) ready.rows
+    (λ more. (grind (arith, common_steps), job.cheap)))
 
 -- a slot leaves jobs ready, whosever turn it is
 turn_ready : (p : Plan) (s : State) (t : Turn) → Ready p s → RowsReady p (jobs_after s (work_of s t))
@@ -87,19 +105,22 @@ slot_ready p s ready =
     record { plan = ready.plan; rows = turn_ready p s t ready; counts = length_tallies s t ∙ ready.counts }
 
 -- a call leaves a rig ready
-pub ready_after : (p : Plan) (s : State) (c : Ask) → Ready p s → Ready p (state_after s c)
+pub ready_after : (p : Plan) (s : State) (c : PlanCall) → Ready p s → Ready p (state_after s c)
 unfolding state_after
-ready_after p s (load q) ready = ready
-ready_after p s (release g k m) ready = holds_unless (Ready p) (release_refusal s g k m) (with_release s g k m) s (release_ready p s g k m ready) ready
-ready_after p s (withdraw g k) ready = holds_unless (Ready p) (withdraw_refusal s g k) (with_withdrawal s g k) s (λ none. withdrawal_ready p s g k ready) ready
-ready_after p s (question g) ready = ready
-ready_after p s slot ready = holds_unless (Ready p) (slot_refusal s) (with_slot s) s (λ none. slot_ready p s ready) ready
+ready_after p s c ready =
+    holds_unless (Ready p) (effect s c).refusal (effect s c).state s (λ none. go c (kind s c) none) ready
+  where
+    go : (d : PlanCall) → Kind s d → (effect s d).refusal ≡ None → Ready p (effect s d).state
+    go d slots none = slot_ready p s ready
+    go d (releases g k m) none = release_ready p s g k m ready none
+    go d (withdraws g k) none = withdrawal_ready p s g k ready
+    go d (keeps _ quiet) none = subst (Ready p) (sym quiet.state) ready
 
 -- calls leave a rig ready
 pub ready_end : (p : Plan) (s : State) (xs : List Exchange) → Ready p s → Ready p (state_end s xs)
 unfolding state_end
 ready_end p s [] ready = ready
-ready_end p s (x ∷ xs) ready = ready_end p (state_after s x.ask) xs (ready_after p s x.ask ready)
+ready_end p s (x ∷ xs) ready = ready_end p (state_after s x.call) xs (ready_after p s x.call ready)
 
 -- a rig that has just been loaded is ready
 pub ready_at_load : (p : Plan) → Ready p (state_at_load p)
@@ -108,7 +129,7 @@ ready_at_load p = record {
   rows = record {
     wide = length-replicate 16 row_at_start;
     deep = λ g l. rw (get_or-replicate 16 g row_at_start [] l) (length-map-range_with_len job_at_start 0 8);
-    kept = jobs_kept_at_start p;
+    kept = jobs_invariant_at_start p;
   };
   counts = length-replicate 16 no_tally;
 }

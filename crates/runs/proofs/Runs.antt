@@ -1,41 +1,93 @@
--- Runs, call by call.
-use Rattle.std.proofs.Common.{◌≡◌, refl, sym, ap, ◌∙◌, ℕ, ◌+◌, ◌<◌, List, [], ◌∷◌, ◌++◌, length, length-append, map, take, get_or, Result, arith}
-use Rattle.std.proofs.lemmas.List.{map-append, map_more}
+-- Calls that are made one after another.
+use Rattle.std.proofs.Common.{◌≡◌, refl, sym, ap, ◌∙◌, ℕ, ◌+◌, ◌<◌, List, [], ◌∷◌, ◌++◌, min, length}
+use Rattle.std.proofs.Common.{length-append, map, take, drop, get_or, slice_set, Result, arith}
+use Rattle.std.proofs.lemmas.List.{length-set, length-map, take-map, map-append}
+use Rattle.std.proofs.lemmas.List.{map_more, take_more_set, drop-set-lt, drop-drop}
 use Rattle.decline.specs.declared.Decline.{Decline}
-use Rattle.decline.specs.Refusals.{by_numbers}
-use Rattle.rig.specs.Calls.{RigState}
-use Rattle.runs.specs.declared.calls.Call.{Call}
-use Rattle.runs.specs.declared.calls.Reply.{Reply}
-use Rattle.runs.specs.Asks.{Ask, Answer, asked, exchange, exchanges}
-use Rattle.runs.specs.Runs.{Goes, GoesOn, HasRun}
-use Rattle.runs.proofs.Start.{goes_on_join}
+use Rattle.rig.specs.declared.call.Call.{Call}
+use Rattle.rig.specs.declared.reply.Reply.{Reply}
+use Rattle.rig.specs.Calls.{PlanCall, plan_call}
+use Rattle.rig.specs.Replies.{NumberedAnswer, answer_numbers}
+use Rattle.rig.specs.Step.{RigState, IsStep}
+use Rattle.runs.specs.Traces.{exchange, exchanges, IsTrace, AreMade}
+use Rattle.runs.specs.Run.{IsRun}
+use Rattle.runs.proofs.Start.{trace_join}
+use Rattle.runs.proofs.Law.{law_kept}
 
 -- as many answers as calls, and then one of each more
-exchanges_more : (cs : List Ask) (as′ : List Answer) (c : Ask) (a : Answer) → length as′ ≡ length cs → exchanges (cs ++ c ∷ []) (as′ ++ a ∷ []) ≡ exchanges cs as′ ++ exchange c a ∷ []
+exchanges_more : (cs : List PlanCall) (as′ : List NumberedAnswer) (c : PlanCall) (a : NumberedAnswer)
+    → length as′ ≡ length cs
+    → exchanges (cs ++ c ∷ []) (as′ ++ a ∷ []) ≡ exchanges cs as′ ++ exchange c a ∷ []
 unfolding exchanges
 exchanges_more [] [] c a long = refl
 exchanges_more [] (b ∷ as′) c a long = absurd (omega (arith, long))
 exchanges_more (d ∷ cs) [] c a long = absurd (omega (arith, long))
-exchanges_more (d ∷ cs) (b ∷ as′) c a long = ap (λ xs. exchange d b ∷ xs) (exchanges_more cs as′ c a (omega (arith, long)))
+exchanges_more (d ∷ cs) (b ∷ as′) c a long =
+    ap (λ xs. exchange d b ∷ xs) (exchanges_more cs as′ c a (omega (arith, long)))
 
--- no calls have run, before the first
-pub run_none : (r : RigState) → HasRun r [] [] r
-unfolding GoesOn exchanges
-run_none r = record { one_each = refl; by_definition = refl }
+-- no calls have been made, before the first
+none_made : (r : RigState) → AreMade r [] [] r
+unfolding IsTrace exchanges
+none_made r = record { one_each = refl; steps = refl }
 
--- calls that have run, and one more
-run_more : (r between after : RigState) (cs : List Ask) (as′ : List Answer) (c : Ask) (a : Answer) → HasRun r cs as′ between → Goes between c a after → HasRun r (cs ++ c ∷ []) (as′ ++ a ∷ []) after
-unfolding GoesOn
-run_more r between after cs as′ c a run goes =
+-- calls that have been made, and one more
+more_made : (r between after : RigState) (cs : List PlanCall) (as′ : List NumberedAnswer) (c : PlanCall)
+    (a : NumberedAnswer)
+    → AreMade r cs as′ between → IsStep between c a after → AreMade r (cs ++ c ∷ []) (as′ ++ a ∷ []) after
+unfolding IsTrace
+more_made r between after cs as′ c a made step =
     record {
-      one_each = length-append as′ (a ∷ []) ∙ ap (λ n. n + 1) run.one_each ∙ sym (length-append cs (c ∷ []));
-      by_definition =
-          rw (exchanges_more cs as′ c a run.one_each) (goes_on_join r (exchanges cs as′) (exchange c a ∷ []) between after run.by_definition (after, goes, refl));
+      one_each = length-append as′ (a ∷ []) ∙ ap (λ n. n + 1) made.one_each ∙ sym (length-append cs (c ∷ []));
+      steps =
+          rw (exchanges_more cs as′ c a made.one_each)
+          (trace_join r (exchanges cs as′) (exchange c a ∷ []) between after made.steps (after, step, refl));
     }
 
--- the first calls of a list that have run, and the next one
-pub run_on : (r between after : RigState) (calls : List Call) (answers : List (Result Reply Decline)) (i : ℕ) (d : Call) (a : Result Reply Decline) → i < length calls
-    → HasRun r (map asked (take i calls)) (map by_numbers answers) between → Goes between (asked (get_or calls i d)) (by_numbers a) after
-    → HasRun r (map asked (take (i + 1) calls)) (map by_numbers (answers ++ a ∷ [])) after
-run_on r between after calls answers i d a inside run goes =
-    rw (map_more asked calls i d inside, map-append by_numbers answers (a ∷ [])) (run_more r between after (map asked (take i calls)) (map by_numbers answers) (asked (get_or calls i d)) (by_numbers a) run goes)
+-- the first calls of a list were made: their answers are in the first places, and the others hold what they held
+unfoldable pub FirstMade : RigState → List Call → (places answers : List (Result Reply Decline)) → ℕ → RigState → Type 0
+FirstMade r calls places answers i after =
+    (length answers ≡ length places) × (drop i answers ≡ drop i places)
+    × AreMade r (map plan_call (take i calls)) (map answer_numbers (take i answers)) after
+
+-- at first none were
+pub none_first : (r : RigState) (calls : List Call) (places : List (Result Reply Decline))
+    → FirstMade r calls places places 0 r
+unfolding FirstMade
+none_first r calls places = (refl, refl, none_made r)
+
+-- places that are as they were from one on are as they were from the next on when that one is set
+rest_after : {X : Type 0} (xs ys : List X) (i : ℕ) (x : X) → drop i xs ≡ drop i ys
+    → drop (i + 1) (slice_set xs i x) ≡ drop (i + 1) ys
+rest_after xs ys i x same =
+    drop-set-lt (i + 1) xs i x (omega arith) ∙ sym (drop-drop 1 i xs) ∙ ap (drop 1) same ∙ drop-drop 1 i ys
+
+-- then one more
+pub one_more : (r between after : RigState) (calls : List Call) (places answers : List (Result Reply Decline))
+    (i : ℕ) (d : Call) (a : Result Reply Decline)
+    → FirstMade r calls places answers i between → i < length calls → i < length answers
+    → IsStep between (plan_call (get_or calls i d)) (answer_numbers a) after
+    → FirstMade r calls places (slice_set answers i a) (i + 1) after
+unfolding FirstMade
+one_more r between after calls places answers i d a (long, rest, made) inside room step = (
+  length-set answers i a ∙ long,
+  rest_after answers places i a rest,
+  rw (
+    map_more plan_call calls i d inside,
+    take_more_set answers i a room,
+    map-append answer_numbers (take i answers) (a ∷ []),
+  ) (more_made r between after _ _ (plan_call (get_or calls i d)) (answer_numbers a) made step),
+)
+
+-- and when there are no more of both, it is a run
+pub all_made : (r after : RigState) (calls : List Call) (places answers : List (Result Reply Decline)) (i n : ℕ)
+    → FirstMade r calls places answers i after → n ≡ min (length calls) (length places) → n ≡ i
+    → IsRun r (map plan_call calls) places answers n after
+unfolding FirstMade
+all_made r after calls places answers i n (long, rest, made) count all =
+    rw all
+    record {
+      made = sym all ∙ count ∙ ap (λ n. min n (length places)) (sym (length-map calls plan_call));
+      same_places = long;
+      rest = rest;
+      law = rw (take-map plan_call i calls) (law_kept _ _ _ made.steps);
+    }

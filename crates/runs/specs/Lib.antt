@@ -1,5 +1,4 @@
-pub mod Asks
+pub mod Entries
 pub mod Laws
-pub mod Replies
-pub mod Runs
-pub mod Text
+pub mod Run
+pub mod Traces

@@ -1,40 +1,23 @@
-// Calls and replies as data.
-use admission::Setup;
-use journal::Entry;
-use rig::Tally;
+//! Runs of calls.
+ghost use Rattle.std.specs.Prelude.{map};
+ghost use Rattle.rig.specs.Calls.{plan_call};
+ghost use Rattle.rig.specs.Abstraction.{state_of};
+ghost use Rattle.runs.specs.Run.{IsRun};
 
-// One of the five calls of a rig.
-#[derive(Clone, Copy, Debug, Drop)]
-pub enum Call<'a> {
-    Load {
-        setup: Setup<'a>,
-    },
-    Release {
-        guest: u32,
-        task: u32,
-        operations: u32,
-    },
-    Withdraw {
-        guest: u32,
-        task: u32,
-    },
-    Question {
-        guest: u32,
-    },
-    Slot,
-}
+use device::Device;
+use rig::{Answer, Call, Rig};
 
-// What a call that is not refused answers.
-#[derive(Clone, Copy, PartialEq, Eq, Debug)]
-pub enum Reply {
-    // The setup is loaded.
-    Loaded,
-    // The job is due at this slot.
-    Released { deadline: u32 },
-    // The job is withdrawn, when so many of its operations had their slot.
-    Withdrawn { done: u8 },
-    // What the guest had since load.
-    Told { tally: Tally },
-    // What happened in the slot.
-    Passed { entry: Entry },
+/// Makes calls of a rig, each on what came of those before, and puts their answers into places that are lent, one after
+/// another, as far as there are both calls and places. Answers how many calls were made; the places past them hold
+/// what they held. A refused call is answered its refusal and changes nothing, and the next one is made.
+#[tactic(auto, using(crate::proofs::Runs::none_first, crate::proofs::Runs::one_more, crate::proofs::Runs::all_made))]
+pub fn run<D: Device>(rig: &mut Rig<D>, calls: &[Call<'_>], answers: &mut [Answer]) -> usize
+    ensures { IsRun (state_of D.meaning rig.old) (map plan_call calls.now) answers.old answers.new result
+        (state_of D.meaning rig.new) }
+{
+    let count = calls.len().min(answers.len());
+    for i in 0..count {
+        answers[i] = rig.make(&calls[i]);
+    }
+    count
 }

@@ -19,7 +19,8 @@ count_of (Ok h) = h.count
 count_of (Err m) = 0
 
 -- the places below the count, after a read of what was written, are the entries
-pub came_back : (number : ℕ) (es : List Entry) (bytes : List ℕ) (places after : List Entry) (h : Heading) → ReadsBack number es bytes → length places ≡ 31
+pub came_back : (number : ℕ) (es : List Entry) (bytes : List ℕ) (places after : List Entry) (h : Heading)
+    → ReadsBack number es bytes → length places ≡ 31
     → Ok h ≡ read_answer bytes places → after ≡ places_after bytes places → take h.count after ≡ es
 came_back number es bytes places after h back long answer left =
     let counted : h.count ≡ length es = ap count_of (answer ∙ (back places long).0) in
@@ -40,8 +41,16 @@ IsItself e = equals.ghosts.eq e e ≡ true
 -- so it does whatever happened in the slot
 event_itself : (s : ℕ) (x : Event) → IsItself (says s x)
 event_itself s Unassigned = search rules
-event_itself s (Fixed p a) = elim a.outcome as (λ o. IsItself (says s (Fixed p (ending a o)))) [ Written ↦ search rules | Read ↦ search rules | Refused ↦ search rules ]
-event_itself s (Used g k i a d) = elim a.outcome as (λ o. IsItself (says s (Used g k i (ending a o) d))) [ Written ↦ search rules | Read ↦ search rules | Refused ↦ search rules ]
+event_itself s (Fixed p a) = elim a.outcome as (λ o. IsItself (says s (Fixed p (ending a o)))) [
+  | Written ↦ search rules
+  | Read ↦ search rules
+  | Refused ↦ search rules
+]
+event_itself s (Used g k i a d) = elim a.outcome as (λ o. IsItself (says s (Used g k i (ending a o) d))) [
+  | Written ↦ search rules
+  | Read ↦ search rules
+  | Refused ↦ search rules
+]
 event_itself s (Idle g) = search rules
 
 -- so does a comparison of lists of entries

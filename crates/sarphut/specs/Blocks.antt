@@ -4,17 +4,13 @@ use Rattle.decline.specs.declared.Decline.{Decline}
 use Rattle.decline.specs.declared.DeclineNumbers.{DeclineNumbers}
 use Rattle.decline.specs.Refusals.{refusal_text, sentence_text}
 use Rattle.journal.specs.declared.entries.Entry.{Entry}
-use Rattle.runs.specs.declared.calls.Reply.{Reply}
-use Rattle.runs.specs.declared.calls.Reply.TheVariants.{Loaded, Released, Withdrawn, Told, Passed}
+use Rattle.rig.specs.declared.reply.Reply.{Reply}
+use Rattle.rig.specs.declared.reply.Reply.TheVariants.{Passed}
 
 -- the entry of a slot that passed, if that is what was answered
 abbrev pub passed_entry : Result Reply Decline → Option Entry
-passed_entry (Ok Loaded) = None
-passed_entry (Ok (Released d)) = None
-passed_entry (Ok (Withdrawn n)) = None
-passed_entry (Ok (Told t)) = None
 passed_entry (Ok (Passed e)) = Some e
-passed_entry (Err d) = None
+passed_entry _ = None
 
 -- what is found of a block by what its write answers: what is written reads back the same
 abbrev pub same_after : Result (Unit {0}) DeclineNumbers → Result Bool DeclineNumbers
@@ -24,7 +20,13 @@ same_after (Err m) = Err m
 -- the line of a block: its entries and whether they read back, or the refusal and its sentence
 abbrev pub block_line : ℕ → ℕ → ℕ → Result Bool Decline → List ℕ
 block_line number count first (Ok true) =
-    codes "block " ++ (decimal number ++ (codes ": " ++ (decimal count ++ (codes " entries from slot " ++ (decimal first ++ codes ", read back")))))
+    codes "block "
+    ++ (decimal number
+    ++ (codes ": " ++ (decimal count ++ (codes " entries from slot " ++ (decimal first ++ codes ", read back")))))
 block_line number count first (Ok false) =
-    codes "block " ++ (decimal number ++ (codes ": " ++ (decimal count ++ (codes " entries from slot " ++ (decimal first ++ codes ", others when read back")))))
-block_line number count first (Err d) = codes "block " ++ (decimal number ++ (codes ": " ++ (refusal_text d ++ (codes ": " ++ sentence_text d))))
+    codes "block "
+    ++ (decimal number
+    ++ (codes ": "
+    ++ (decimal count ++ (codes " entries from slot " ++ (decimal first ++ codes ", others when read back")))))
+block_line number count first (Err d) =
+    codes "block " ++ (decimal number ++ (codes ": " ++ (refusal_text d ++ (codes ": " ++ sentence_text d))))

@@ -1,4 +1,4 @@
-// The blocks of the journal, each read back.
+//! The blocks of the journal, each read back.
 ghost use Rattle.std.specs.Prelude.{◌≡◌, length, replicate, Some};
 ghost use Rattle.decline.specs.Refusals.{by_numbers};
 ghost use Rattle.journal.specs.Blocks.{first_slot};
@@ -80,7 +80,7 @@ impl fmt::Display for BlockLine {
     }
 }
 
-// Prints the line of each block of some entries; whether all read back.
+/// Prints the line of each block of some entries; whether all read back.
 pub(crate) fn print_blocks<W: Write>(entries: &[Entry], out: &mut W) -> io::Result<bool> {
     let mut all = true;
     for (i, part) in entries.chunks(PLACES).enumerate() {

@@ -1,9 +1,9 @@
-// Rehearses setup A over a lamp panel: every call with its answer, then the blocks of the journal, each read back.
+//! Rehearses setup A over a lamp panel: every call with its answer, then the blocks of the journal, each read back.
 #![tactic(auto)]
 
 mod blocks;
 mod rehearsal;
-mod samples;
+mod requests;
 
 use rehearsal::rehearse;
 use std::alloc::Global;

@@ -1,14 +1,18 @@
-// The rehearsal: every call with its answer, then the blocks of the journal.
-ghost use Rattle.std.specs.Prelude.{◌≡◌, IfOk};
+//! The rehearsal: every call with its answer, then the blocks of the journal.
+ghost use Rattle.std.specs.Prelude.{◌≡◌, map, IfOk};
 ghost use Rattle.std.specs.List.{filter_map};
+ghost use Rattle.rig.specs.Calls.{plan_call};
+ghost use Rattle.rig.specs.Replies.{answer_numbers};
+ghost use Rattle.sarphut.specs.Answers.{AreAnswered};
 ghost use Rattle.sarphut.specs.Blocks.{passed_entry};
 
 use crate::blocks::print_blocks;
-use crate::samples::calls;
+use crate::requests::calls;
+use decline::Decline;
 use device::LampPanel;
 use journal::Entry;
-use rig::Rig;
-use runs::{Answer, AnswerLine, Call, Reply, run};
+use rig::{Answer, AnswerLine, Call, Reply, Rig};
+use runs::run;
 use std::alloc::{AllocError, Global};
 use std::io::{self, Write};
 
@@ -42,11 +46,25 @@ fn passed(alloc: Global, answers: &[Answer]) -> Result<Vec<Entry>, AllocError>
     entries.collect(alloc)
 }
 
-// Makes the calls of a fresh rig around a lamp panel, and prints them with their answers and the blocks of the journal; whether every block read back.
-pub(crate) fn rehearse<W: Write>(alloc: Global, out: &mut W) -> io::Result<bool> {
+// What fills the places of answers until the calls are made.
+const NO_ANSWER: Answer = Err(Decline::NotLoaded);
+
+// Makes the calls of a fresh rig around a lamp panel, and answers what they were answered: there is a place for each.
+#[tactic(auto, using(crate::proofs::Answered::each_answered))]
+fn answers_to(alloc: Global, calls: &[Call<'_>]) -> Result<Vec<Answer>, AllocError>
+    ensures { IfOk result (λ v. AreAnswered (map plan_call calls.now) (map answer_numbers v.items)) }
+{
     let mut rig = Rig::new(LampPanel::new());
+    let mut answers = vec![in alloc; NO_ANSWER; calls.len()]?;
+    run(&mut rig, calls, &mut answers);
+    Ok(answers)
+}
+
+/// Makes the calls of the rehearsal, and prints them with their answers and the blocks of the journal; whether every
+/// block read back.
+pub(crate) fn rehearse<W: Write>(alloc: Global, out: &mut W) -> io::Result<bool> {
     let calls = calls(alloc)?;
-    let answers = run(alloc, &mut rig, &calls)?;
+    let answers = answers_to(alloc, &calls)?;
     print_answers(&calls, &answers, out)?;
     let entries = passed(alloc, &answers)?;
     let all = print_blocks(&entries, out)?;

@@ -1,26 +1,30 @@
 -- What the turns of a session grant each guest.
-use Rattle.std.proofs.Common.{◌≡◌, sym, ap, ◌∙◌, ℕ, zero, suc, ◌+◌, ◌*◌, ◌-◌, ◌<◌, ◌≤◌, Bool, cond, List, ◌++◌, length, map, take, drop, get_or, count_by, ⊎_elim, subst, arith}
+use Rattle.std.proofs.Common.{◌≡◌, sym, ap, ◌∙◌, ℕ, zero, suc, ◌+◌, ◌*◌, ◌-◌, ◌<◌, ◌≤◌, Bool, cond, arith}
+use Rattle.std.proofs.Common.{⊎_elim, subst, List, ◌++◌, length, map, take, drop, get_or, count_by}
 use Rattle.std.specs.List.{range_with_len}
 use Rattle.std.proofs.lemmas.Bool.{cases_Bool}
 use Rattle.std.proofs.lemmas.List.{get_or-drop, get_or_append_left, length-drop, length-append}
 use Rattle.std.proofs.lemmas.List.FromFn.{length-map-range_with_len, get_or-map-range_with_len}
 use Rattle.std.proofs.lemmas.List.Sums.{count_by_more_yes, count_by_more_no}
-use Rattle.admission.specs.Plan.{Plan, guest_at}
-use Rattle.admission.specs.Demand.{server_supply}
+use Rattle.setups.specs.Plan.{Plan, guest_at}
+use Rattle.setups.specs.Demand.{server_supply}
 use Rattle.admission.specs.Verdict.{Accepted}
 use Rattle.deadlines.specs.Sums.{sum_below}
+use Rattle.deadlines.specs.Course.{StreamState}
 use Rattle.deadlines.proofs.Sums.{sum_below_next, sum_below_same}
 use Rattle.deadlines.proofs.Servers.{ServeGuests, granted, whole_periods, supplied}
 use Rattle.schedule.specs.declared.turn.Turn.{Turn}
 use Rattle.schedule.specs.declared.turn.Turn.TheVariants.{Unassigned}
 use Rattle.schedule.specs.Session.{Session, turn_at}
-use Rattle.schedule.specs.Timetable.{places_with, is_granted, grants_in, BudgetsGranted, SupplyGranted}
+use Rattle.schedule.specs.Turns.{is_granted}
+use Rattle.schedule.specs.Timetable.{places_with, grants_in, GrantsBudgets, GrantsSupply}
 use Rattle.schedule.proofs.Grants.{grant_count}
-use Rattle.schedule.proofs.Places.{FilledTo}
-use Rattle.schedule.proofs.Slots.{left_before, left_in, boundary_before, serve_guests, granted_turn}
+use Rattle.schedule.proofs.Places.{HasFilled}
+use Rattle.schedule.proofs.Slots.{server_before, server_ready, serve_guests, granted_turn}
 
 -- one more element counts if it passes the test
-count_by_more : {X : Type 0} (p : X → Bool) (xs : List X) (i : ℕ) (d : X) → i < length xs → count_by p (take (i + 1) xs) ≡ count_by p (take i xs) + cond (p (get_or xs i d)) 1 0
+count_by_more : {X : Type 0} (p : X → Bool) (xs : List X) (i : ℕ) (d : X) → i < length xs
+    → count_by p (take (i + 1) xs) ≡ count_by p (take i xs) + cond (p (get_or xs i d)) 1 0
 count_by_more p xs i d l =
     ⊎_elim
     (λ yes. count_by_more_yes p xs i d l yes ∙ ap (λ b. count_by p (take i xs) + cond b 1 0) (sym yes))
@@ -40,10 +44,13 @@ module _ (f : ℕ → Turn) (n g : ℕ) (rest : List Turn) where
   pub grants_sum : (s t : ℕ) → s + t ≤ n → grants_in g s t turns + sum_below one_if s ≡ sum_below one_if (s + t)
   grants_sum s zero h = let none : s ≡ s + 0 = omega arith in omega (arith, ap (sum_below one_if) none)
   grants_sum s (suc t) h =
-      let long : n ≤ length turns = omega (arith, length-append (map f (range_with_len 0 n)) rest, length-map-range_with_len f 0 n) in
+      let long : n ≤ length turns =
+      omega (arith, length-append (map f (range_with_len 0 n)) rest, length-map-range_with_len f 0 n) in
       let inside : t < length (drop s turns) = omega (arith, length-drop s turns, long, h) in
       let is : get_or (drop s turns) t Unassigned ≡ f (s + t) =
-      get_or-drop s turns t Unassigned ∙ get_or_append_left (map f (range_with_len 0 n)) rest Unassigned (s + t) (omega (arith, length-map-range_with_len f 0 n, h))
+      get_or-drop s turns t Unassigned
+      ∙ get_or_append_left (map f (range_with_len 0 n)) rest Unassigned (s + t)
+      (omega (arith, length-map-range_with_len f 0 n, h))
       ∙ get_or-map-range_with_len f 0 n (s + t) (s + t) Unassigned (omega (arith, h)) (omega arith) in
       let count : t + 1 ≡ suc t = omega arith in
       let slots : s + suc t ≡ suc (s + t) = omega arith in
@@ -63,8 +70,16 @@ module _ (p : Plan) (registers : ℕ) (ok : Accepted p registers) where
   abbrev pub grant_at : ℕ → ℕ → ℕ
   grant_at i s = grant_count (i + 1) (turn_at p.table p.guests s)
 
-  -- the servers of the plan, as the theory has them
-  abbrev course : ServeGuests p.table p.guests (left_before p.table p.guests) (left_in p.table p.guests) (boundary_before p.table p.guests)
+  -- the server of each guest of the plan before a slot, as a stream
+  abbrev before : ℕ → ℕ → StreamState
+  before = server_before p.table p.guests
+
+  -- and in the slot
+  abbrev ready : ℕ → ℕ → StreamState
+  ready = server_ready p.table p.guests
+
+  -- the servers are refilled and served
+  abbrev course : ServeGuests p.table p.guests before ready
   course = serve_guests p.table p.guests
 
   -- its table has a byte
@@ -72,30 +87,33 @@ module _ (p : Plan) (registers : ℕ) (ok : Accepted p registers) where
   some_byte = omega (arith, ok.form.sizes.table)
 
   -- the slots before slot s grant guest i what they take from its budgets
-  grants_before : (i s : ℕ) → sum_below (grant_at i) s ≡ sum_below (granted (left_before p.table p.guests) (left_in p.table p.guests) i) s
+  grants_before : (i s : ℕ)
+      → sum_below (grant_at i) s ≡ sum_below (granted before ready i) s
   grants_before i s = sum_below_same _ _ s (λ k l. granted_turn p.table p.guests i k)
 
   -- the slots of the first q periods of guest i grant it q budgets
-  pub whole_granted : (i q : ℕ) → i < length p.guests → sum_below (grant_at i) (q * (guest_at p.guests i).period) ≡ q * (guest_at p.guests i).budget
+  pub whole_granted : (i q : ℕ) → i < length p.guests
+      → sum_below (grant_at i) (q * (guest_at p.guests i).period) ≡ q * (guest_at p.guests i).budget
   whole_granted i q l =
       grants_before i (q * (guest_at p.guests i).period)
-      ∙ whole_periods p.table p.guests (left_before p.table p.guests) (left_in p.table p.guests) (boundary_before p.table p.guests) some_byte ok.form.servers ok.schedulable.link course i q l
+      ∙ whole_periods p.table p.guests before ready some_byte ok.form.servers ok.schedulable.link course i q l
 
   -- the slots from a to before b grant guest i at least what its server gives in so many
   pub supplied_granted : (i a b : ℕ) → i < length p.guests → a ≤ b
-      → sum_below (grant_at i) a + server_supply (guest_at p.guests i).period (guest_at p.guests i).budget (b - a) ≤ sum_below (grant_at i) b
+      → sum_below (grant_at i) a + server_supply (guest_at p.guests i).period (guest_at p.guests i).budget (b - a)
+      ≤ sum_below (grant_at i) b
   supplied_granted i a b l le =
       omega (
         arith,
         grants_before i a,
         grants_before i b,
-        supplied p.table p.guests (left_before p.table p.guests) (left_in p.table p.guests) (boundary_before p.table p.guests) some_byte ok.form.servers ok.schedulable.link course i a b l le,
+        supplied p.table p.guests before ready some_byte ok.form.servers ok.schedulable.link course i a b l le,
       )
 
   module _ (places : List Turn) (n : ℕ) where
     -- the first n turns grant each guest its budget in each period whose slots are all among them
-    pub budgets_granted : BudgetsGranted p.guests (places_with p places n) n
-    unfolding BudgetsGranted
+    pub budgets_granted : GrantsBudgets p.guests (places_with p places n) n
+    unfolding GrantsBudgets
     budgets_granted i q l h =
         let period = (guest_at p.guests i).period in
         let next : q * period + period ≡ (q + 1) * period = omega arith in
@@ -108,8 +126,8 @@ module _ (p : Plan) (registers : ℕ) (ok : Accepted p registers) where
         )
 
     -- and its supply in any successive slots among them
-    pub supply_granted : SupplyGranted p.guests (places_with p places n) n
-    unfolding SupplyGranted
+    pub supply_granted : GrantsSupply p.guests (places_with p places n) n
+    unfolding GrantsSupply
     supply_granted i s t l h =
         let slots : s + t - s ≡ t = omega arith in
         omega (
@@ -120,9 +138,13 @@ module _ (p : Plan) (registers : ℕ) (ok : Accepted p registers) where
         )
 
 -- turns that are filled in grant each guest its budget in each period whose slots are all among them
-pub budgets_of : (p : Plan) (registers : ℕ) (places turns : List Turn) (s : Session) (i n : ℕ) → Accepted p registers → FilledTo p places turns s i → i ≡ n → BudgetsGranted p.guests turns n
-budgets_of p registers places turns s i n ok so all = subst (λ k. BudgetsGranted p.guests turns k) all (rw so.filled (budgets_granted p registers ok places i))
+pub budgets_of : (p : Plan) (registers : ℕ) (places turns : List Turn) (s : Session) (i n : ℕ) → Accepted p registers
+    → HasFilled p places turns s i → i ≡ n → GrantsBudgets p.guests turns n
+budgets_of p registers places turns s i n ok so all =
+    subst (λ k. GrantsBudgets p.guests turns k) all (rw so.filled (budgets_granted p registers ok places i))
 
 -- and its supply in any successive slots
-pub supply_of : (p : Plan) (registers : ℕ) (places turns : List Turn) (s : Session) (i n : ℕ) → Accepted p registers → FilledTo p places turns s i → i ≡ n → SupplyGranted p.guests turns n
-supply_of p registers places turns s i n ok so all = subst (λ k. SupplyGranted p.guests turns k) all (rw so.filled (supply_granted p registers ok places i))
+pub supply_of : (p : Plan) (registers : ℕ) (places turns : List Turn) (s : Session) (i n : ℕ) → Accepted p registers
+    → HasFilled p places turns s i → i ≡ n → GrantsSupply p.guests turns n
+supply_of p registers places turns s i n ok so all =
+    subst (λ k. GrantsSupply p.guests turns k) all (rw so.filled (supply_granted p registers ok places i))

@@ -1,109 +1,82 @@
--- What a grant does to the servers.
-use Rattle.std.proofs.Common.{◌≡◌, refl, sym, ap, ◌∙◌, ℕ, ◌+◌, ◌<◌, ◌≤◌, false, cond, List, length, slice_set, Option, Some, None, IsTrue, arith}
-use native.Mathlib.Decide.{ℕ_discrete as dec_eq}
+-- What a grant does to the servers: it is one unit of work of the one that goes first.
+use Rattle.std.proofs.Common.{◌≡◌, refl, ap, ℕ, suc, ◌+◌, ◌-◌, ◌<◌, false, cond, arith}
+use Rattle.std.proofs.Common.{List, length, Option, Some, None}
 use Rattle.std.proofs.lemmas.Grind.{common_steps}
-use Rattle.std.proofs.lemmas.List.{length-set, get_or-set_other, get_or-set_same}
-use Rattle.std.proofs.lemmas.Option.{get_or_from_slice_get, slice_get_within, slice_get-get_or}
-use Rattle.waiting.specs.Change.{with_change, with_change_at}
-use Rattle.waiting.specs.Earliest.{NamesFirst, ranks_before}
-use Rattle.waiting.proofs.Least.{earliest_names_first}
-use Rattle.deadlines.specs.Course.{Serves, no_work, serves}
+use Rattle.deadlines.specs.Course.{StreamState, with_unit, Serves}
+use Rattle.deadlines.proofs.OneAtATime.{Servable, names_place, ServedBy, EarlierFirst, WaitForWork}
+use Rattle.deadlines.proofs.OneAtATime.{length_served, work_served, serves_earliest}
 use Rattle.schedule.specs.declared.server.Server.{Server}
 use Rattle.schedule.specs.declared.turn.Turn.{Turn}
-use Rattle.schedule.specs.Slot.{has_budget, server_rank, server_at, no_server, first_server, with_less, with_grant, free_turn}
-use Rattle.schedule.specs.Timetable.{is_granted}
+use Rattle.schedule.specs.Slot.{has_budget, server_rank, server_at, no_server}
+use Rattle.schedule.specs.Slot.{first_server, with_less, with_grant, free_turn}
+use Rattle.schedule.specs.Turns.{is_granted}
+use Rattle.schedule.proofs.Waiting.{by_rank, served_by_earliest}
 
 -- 1 if a turn is granted to guest g, else 0
 abbrev pub grant_count : ℕ → Turn → ℕ
 grant_count g t = cond (is_granted g t) 1 0
 
--- servers become these by a grant to the one at place p: it has budget left, no server with budget left has a nearer boundary, and it has one slot less
-pub record GrantedTo (vs : List Server) (p : ℕ) (ws : List Server) : Type 0 where
-  pub changed : ws ≡ slice_set vs p (with_less (server_at vs p))
-  pub within : p < length vs
-  pub some : 0 < (server_at vs p).left
-  pub nearest : (k : ℕ) → k < length vs → 0 < (server_at vs k).left → (server_at vs p).boundary ≤ (server_at vs k).boundary
-
--- servers become these by a grant to the one that an answer names; where it names none, none has budget left and nothing changes
-abbrev pub GrantedBy : List Server → Option ℕ → List Server → Type 0
-GrantedBy vs None ws = (ws ≡ vs) × ((k : ℕ) → k < length vs → (server_at vs k).left ≡ 0)
-GrantedBy vs (Some p) ws = GrantedTo vs p ws
-
 -- a server that does not wait has nothing left
-nothing_left : (v : Server) → has_budget v ≡ false → v.left ≡ 0
+pub nothing_left : (v : Server) → has_budget v ≡ false → v.left ≡ 0
 nothing_left v idle = grind (arith, common_steps)
 
--- a server that has something left waits
-waits_with_budget : (v : Server) → 0 < v.left → IsTrue (has_budget v)
-waits_with_budget v some = grind (arith, common_steps)
+-- a server as a stream: what is left of its budget is due at its boundary, where the next budget comes
+abbrev pub stream_of : Server → StreamState
+stream_of v = record { work = v.left; deadline = v.boundary; allowed = v.boundary }
 
--- a server that waits has something left
-budget_of_waiting : (v : Server) → IsTrue (has_budget v) → 0 < v.left
-budget_of_waiting v ready = grind (arith, common_steps)
+-- one slot of a budget is one unit of its work
+pub one_slot_less : (v : Server) → 0 < v.left → stream_of v ≡ with_unit (stream_of (with_less v))
+one_slot_less v some =
+    let less : v.left ≡ suc (v.left - 1) = omega (arith, some) in
+    ap (λ n. stream_of (record v { left = n })) less
 
--- if w does not rank before v, its boundary is not before that of v
-boundary_le : (v w : Server) → ranks_before (server_rank w) (server_rank v) ≡ false → v.boundary ≤ w.boundary
-boundary_le v w not_less = grind (arith, common_steps)
+-- servers can be served
+abbrev pub servers : Servable Server
+servers = record {
+  waits = has_budget;
+  stream = stream_of;
+  serve = with_less;
+  past_end = no_server;
+  idle = nothing_left;
+  one_less = one_slot_less;
+}
+
+-- an earlier boundary goes first
+earlier_first : EarlierFirst servers (by_rank server_rank)
+earlier_first v w sooner = grind (arith, common_steps)
 
 -- a grant goes to the server that goes first, or changes nothing where none has budget left
-pub granted_by_first : (vs : List Server) → GrantedBy vs (first_server vs) (with_grant vs)
-granted_by_first vs = go (first_server vs) (earliest_names_first has_budget server_rank vs)
-  where
-    go : (r : Option ℕ) → NamesFirst has_budget server_rank vs r → GrantedBy vs r (with_change with_less vs r)
-    go None none = (refl, λ k l. nothing_left (server_at vs k) (none k no_server l))
-    go (Some p) (x, first) =
-        let is : server_at vs p ≡ x = get_or_from_slice_get vs p x no_server first.there in
-        record {
-          changed = ap (with_change_at with_less vs p) first.there ∙ ap (λ v. slice_set vs p (with_less v)) (sym is);
-          within = slice_get_within vs p x first.there;
-          some = rw is (budget_of_waiting x first.waiting);
-          nearest = λ k l some.
-              let there = slice_get-get_or vs k no_server l in
-              rw is (boundary_le x (server_at vs k) (first.least k (server_at vs k) there (waits_with_budget (server_at vs k) some)));
-        }
+pub granted_by_first : (vs : List Server) → ServedBy servers vs (first_server vs) (with_grant vs)
+granted_by_first vs = served_by_earliest servers server_rank vs earlier_first
 
-module _ (vs : List Server) (p : ℕ) (ws : List Server) (g : GrantedTo vs p ws) where
-  -- the server that is granted the slot has one less
-  at_place : server_at ws p ≡ with_less (server_at vs p)
-  at_place = ap (λ us. server_at us p) g.changed ∙ get_or-set_same vs p (with_less (server_at vs p)) no_server g.within
+-- a free slot is granted to the guest of the server that is named
+count_named : (r : Option ℕ) (k : ℕ) → grant_count (k + 1) (free_turn r) ≡ names_place r k
+count_named None k = refl
+count_named (Some p) k = grind (arith, common_steps)
 
-  -- every other is as it was
-  elsewhere : (k : ℕ) → (k ≡ p → ⊥) → server_at ws k ≡ server_at vs k
-  elsewhere k apart = ap (λ us. server_at us k) g.changed ∙ get_or-set_other vs p k (with_less (server_at vs p)) no_server apart
+module _ (vs : List Server) where
+  -- a server waits for what is left of its budget
+  wait_for_budget : WaitForWork servers (length vs) vs
+  wait_for_budget k l waits = (l, grind (arith, common_steps))
 
--- after a grant there are as many servers
-pub length_granted : (vs : List Server) (r : Option ℕ) (ws : List Server) → GrantedBy vs r ws → length ws ≡ length vs
-length_granted vs None ws (same, none) = ap length same
-length_granted vs (Some p) ws g = ap length g.changed ∙ length-set vs p (with_less (server_at vs p))
+  -- after a grant there are as many servers
+  pub length_granted : length (with_grant vs) ≡ length vs
+  length_granted = length_served servers vs (first_server vs) (with_grant vs) (granted_by_first vs)
 
--- each has the boundary that it had
-pub boundary_granted : (vs : List Server) (r : Option ℕ) (ws : List Server) → GrantedBy vs r ws → (k : ℕ) → (server_at ws k).boundary ≡ (server_at vs k).boundary
-boundary_granted vs None ws (same, none) k = ap (λ us. (server_at us k).boundary) same
-boundary_granted vs (Some p) ws g k =
-    elim (dec_eq k p) [
-      | yes here ↦ rw here (ap (λ v. v.boundary) (at_place vs p ws g))
-      | no apart ↦ ap (λ v. v.boundary) (elsewhere vs p ws g k apart)
-    ]
+  -- and as many slots less as the grant says: one, if the turn is its guest's
+  pub left_granted : (k : ℕ)
+      → (server_at (with_grant vs) k).left + grant_count (k + 1) (free_turn (first_server vs)) ≡ (server_at vs k).left
+  left_granted k =
+      omega (
+        arith,
+        count_named (first_server vs) k,
+        work_served servers (length vs) vs wait_for_budget (first_server vs) (with_grant vs) (granted_by_first vs) k,
+      )
 
--- and as many slots less as the grant says: one, if the turn is its guest's
-pub left_granted : (vs : List Server) (r : Option ℕ) (ws : List Server) → GrantedBy vs r ws → (k : ℕ)
-    → (server_at ws k).left + grant_count (k + 1) (free_turn r) ≡ (server_at vs k).left
-left_granted vs None ws (same, none) k = omega (arith, ap (λ us. (server_at us k).left) same)
-left_granted vs (Some p) ws g k =
-    elim (dec_eq k p) [
-      | yes here ↦
-          (let less = ap (λ v. v.left) (at_place vs p ws g) in
-          let some = g.some in
-          rw here (grind (arith, common_steps)))
-      | no apart ↦
-          (let same = ap (λ v. v.left) (elsewhere vs p ws g k apart) in
-          grind (arith, common_steps))
-    ]
-
--- a grant serves the servers the nearest boundary first
-pub granted_serves : (vs : List Server) (r : Option ℕ) (ws : List Server) → GrantedBy vs r ws
-    → Serves (length vs) 1 (λ k. (server_at vs k).left) (λ k. (server_at ws k).boundary) (λ k. (server_at ws k).left)
-granted_serves vs None ws (same, none) = no_work none (λ k l. ap (λ us. (server_at us k).left) same)
-granted_serves vs (Some p) ws g =
-    serves p g.within refl (omega (arith, ap (λ v. v.left) (at_place vs p ws g), g.some)) (λ k l apart. ap (λ v. v.left) (elsewhere vs p ws g k apart))
-    (λ k l some. omega (arith, boundary_granted vs (Some p) ws g p, boundary_granted vs (Some p) ws g k, g.nearest k l some))
+  -- a grant serves the servers the nearest boundary first
+  pub granted_serves :
+      let ws = with_grant vs in
+      Serves (length vs) 1 (λ k. stream_of (server_at vs k)) (λ k. stream_of (server_at ws k))
+  granted_serves =
+      serves_earliest servers (length vs) vs wait_for_budget (omega arith) (first_server vs) (with_grant vs)
+      (granted_by_first vs)

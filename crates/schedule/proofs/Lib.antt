@@ -1,4 +1,5 @@
 mod Refills
+pub mod Waiting
 pub mod Grants
 pub mod Slots
 pub mod Sessions

@@ -1,31 +1,34 @@
--- What is kept of a session.
-use Rattle.std.proofs.Common.{◌≡◌, sym, ap, ◌∙◌, ℕ, ◌+◌, ◌%◌, ◌<◌, mod-lt, List, [], ◌∷◌, ◌++◌, length, take, slice_set, Bool, true, false, cond, Option, Some, None, Result, Ok, refl, arith}
+-- The invariant of a session.
+use Rattle.std.proofs.Common.{◌≡◌, refl, sym, ap, ◌∙◌, ℕ, ◌+◌, ◌%◌, ◌<◌, mod-lt, Bool, true, false, cond, arith}
+use Rattle.std.proofs.Common.{List, [], ◌∷◌, ◌++◌, length, take, slice_set, Option, Some, None}
 use native.Mathlib.Decide.{dec_lt}
 use Rattle.std.proofs.lemmas.Grind.{common_steps}
-use Rattle.std.proofs.lemmas.Result.{IfOk-at_ok}
 use Rattle.std.proofs.lemmas.List.{take_more_set, get_or_past}
 use Rattle.std.proofs.lemmas.List.FromFn.{map-range_with_len_more}
-use Rattle.admission.specs.declared.setup.Guest.{Guest}
-use Rattle.admission.specs.Plan.{Plan}
+use Rattle.setups.specs.declared.setup.Guest.{Guest}
+use Rattle.setups.specs.Plan.{Plan}
 use Rattle.admission.specs.Verdict.{Accepted}
-use Rattle.decline.specs.declared.Decline.{Decline}
+use Rattle.deadlines.proofs.OneAtATime.{ServedBy}
 use Rattle.schedule.specs.declared.server.Server.{Server}
 use Rattle.schedule.specs.declared.turn.Turn.{Turn}
-use Rattle.admission.specs.Supply.{free?}
+use Rattle.setups.specs.Supply.{free?}
 use Rattle.schedule.specs.declared.turn.Turn.TheVariants.{Fixed}
-use Rattle.schedule.specs.Slot.{turn_of, after_slot, server_at, byte_at, free_turn, first_server, with_grant, with_refills}
-use Rattle.schedule.specs.Session.{server_at_start, servers_at_start, servers_after, turn_at, LimitsKept, ServersKept, NamedByByte, IsTurnOf}
-use Rattle.schedule.proofs.Grants.{GrantedBy, granted_by_first}
+use Rattle.schedule.specs.Slot.{after_slot, server_at, byte_at, free_turn}
+use Rattle.schedule.specs.Slot.{first_server, with_grant, with_refills}
+use Rattle.schedule.specs.Session.{server_at_start, servers_at_start, servers_after, turn_at}
+use Rattle.schedule.specs.Session.{LimitsInvariant, ServersInvariant, IsNamedByByte, IsTurnOf}
+use Rattle.schedule.proofs.Grants.{servers, granted_by_first}
 use Rattle.schedule.proofs.Slots.{within_after_slot, at_start, servers_next, length_refills}
 
 -- where the first i of some servers are those at the start, with server i set so are the first i + 1
 pub start_more : (vs : List Server) (i : ℕ) → i < length vs → take i vs ≡ servers_at_start i
     → take (i + 1) (slice_set vs i (server_at_start i)) ≡ servers_at_start (i + 1)
 start_more vs i l so_far =
-    take_more_set vs i (server_at_start i) l ∙ ap (λ us. us ++ server_at_start i ∷ []) so_far ∙ sym (map-range_with_len_more server_at_start 0 i i (omega arith))
+    take_more_set vs i (server_at_start i) l ∙ ap (λ us. us ++ server_at_start i ∷ []) so_far
+    ∙ sym (map-range_with_len_more server_at_start 0 i i (omega arith))
 
--- of an accepted plan the limits are kept at the start
-pub limits_at_start : (p : Plan) (registers : ℕ) → Accepted p registers → LimitsKept p.session p.table p.guests 0
+-- of an accepted plan the limits hold at the start
+pub limits_at_start : (p : Plan) (registers : ℕ) → Accepted p registers → LimitsInvariant p.session p.table p.guests 0
 limits_at_start p registers ok = record {
   bytes = omega (arith, ok.form.sizes.table);
   few = ok.form.sizes.guests.few;
@@ -34,38 +37,53 @@ limits_at_start p registers ok = record {
   begun = omega arith;
 }
 
--- and so are the servers
-pub kept_at_start : (p : Plan) (vs : List Server) → vs ≡ servers_at_start (length p.guests) → ServersKept p.table p.guests 0 vs
+-- and so does the invariant of the servers
+pub invariant_at_start : (p : Plan) (vs : List Server) → vs ≡ servers_at_start (length p.guests)
+    → ServersInvariant p.table p.guests 0 vs
 unfolding servers_after
-kept_at_start p vs is = record { by_rule = is; within_budget = λ i l. omega (arith, ap (λ us. (server_at us i).left) is, (at_start p.table p.guests i l).0) }
-
--- and the servers after one slot more
-pub kept_next : (table : List ℕ) (gs : List Guest) (n : ℕ) (vs ws : List Server) → ServersKept table gs n vs → ws ≡ after_slot table gs n vs → ServersKept table gs (n + 1) ws
-kept_next table gs n vs ws k is = record {
-  by_rule = is ∙ ap (after_slot table gs n) k.by_rule ∙ sym (servers_next table gs n);
-  within_budget = λ i l. omega (arith, ap (λ us. (server_at us i).left) is, within_after_slot table gs n vs i l (k.within_budget i l));
+invariant_at_start p vs is = record {
+  by_rule = is;
+  within_budget = λ i l.
+      let none = ap (λ x. x.work) (at_start p.table p.guests i l) in
+      omega (arith, ap (λ us. (server_at us i).left) is, none);
 }
 
--- the turn of a slot by the servers before it is the session's
-pub turn_kept : (table : List ℕ) (gs : List Guest) (n : ℕ) (vs : List Server) (t : Turn) → ServersKept table gs n vs → ◌≡◌ {A = Result Turn Decline} (Ok t) (Ok (turn_of table gs n vs)) → t ≡ turn_at table gs n
-turn_kept table gs n vs t k is = IfOk-at_ok (λ u. t ≡ u) is refl ∙ ap (turn_of table gs n) k.by_rule
+-- and after one slot more
+pub invariant_next : (table : List ℕ) (gs : List Guest) (n : ℕ) (vs ws : List Server) → ServersInvariant table gs n vs
+    → ws ≡ after_slot table gs n vs → ServersInvariant table gs (n + 1) ws
+invariant_next table gs n vs ws k is = record {
+  by_rule = is ∙ ap (after_slot table gs n) k.by_rule ∙ sym (servers_next table gs n);
+  within_budget = λ i l.
+      let within = within_after_slot table gs n vs i l (k.within_budget i l) in
+      omega (arith, ap (λ us. (server_at us i).left) is, within);
+}
 
 module _ (table : List ℕ) (gs : List Guest) where
   -- a free slot is granted to one of as many servers as there are guests, or to none
-  free_turn_of : (vs : List Server) (r : Option ℕ) → length vs ≡ length gs → GrantedBy vs r (with_grant vs) → IsTurnOf table gs (free_turn r)
+  free_turn_of : (vs : List Server) (r : Option ℕ) → length vs ≡ length gs → ServedBy servers vs r (with_grant vs)
+      → IsTurnOf table gs (free_turn r)
   free_turn_of vs None long none = tt
   free_turn_of vs (Some i) long to = (omega arith, omega (arith, to.within, long))
 
   -- a byte that is not free names a fixed operation
-  named_by_byte : (n : ℕ) → free? (byte_at table n) ≡ false → NamedByByte table (byte_at table n)
+  named_by_byte : (n : ℕ) → free? (byte_at table n) ≡ false → IsNamedByByte table (byte_at table n)
   named_by_byte n taken =
       elim (dec_lt 0 (length table)) [
-        | yes some ↦ record { some = grind (arith, common_steps); place = n % length table; within = mod-lt n some; named = refl }
-        | no none ↦ (let free : byte_at table n ≡ 0 = get_or_past table (n % length table) 0 (omega (arith, none)) in absurd cc)
+        | yes some ↦
+            record {
+              some = grind (arith, common_steps);
+              place = n % length table;
+              within = mod-lt n some;
+              named = refl;
+            }
+        | no none ↦
+            (let free : byte_at table n ≡ 0 = get_or_past table (n % length table) 0 (omega (arith, none)) in
+            absurd cc)
       ]
 
   -- the turn of a slot, by whether its byte is free
-  turn_by_byte : (n : ℕ) (free : Bool) (t : Turn) → free? (byte_at table n) ≡ free → IsTurnOf table gs t → IsTurnOf table gs (cond free t (Fixed (byte_at table n)))
+  turn_by_byte : (n : ℕ) (free : Bool) (t : Turn) → free? (byte_at table n) ≡ free → IsTurnOf table gs t
+      → IsTurnOf table gs (cond free t (Fixed (byte_at table n)))
   turn_by_byte n true t is granted = granted
   turn_by_byte n false t is granted = named_by_byte n is
 

@@ -1,9 +1,10 @@
 -- One slot: what it brings the servers, whose turn it is, and what it leaves them.
-use Rattle.std.specs.Prelude.{ℕ, ◌+◌, ◌-◌, ◌%◌, Bool, cond, nat_lt, ◌==◌, List, length, map, slice_index, slice_index_or, Option, Some, None}
+use Rattle.std.specs.Prelude.{ℕ, ◌+◌, ◌-◌, ◌%◌, Bool, cond, nat_lt, ◌==◌, List, length}
+use Rattle.std.specs.Prelude.{map, slice_index, slice_index_or, Option, Some, None}
 use Rattle.std.specs.List.{range_with_len}
-use Rattle.admission.specs.declared.setup.Guest.{Guest}
-use Rattle.admission.specs.Plan.{guest_at}
-use Rattle.admission.specs.Supply.{free?}
+use Rattle.setups.specs.declared.setup.Guest.{Guest}
+use Rattle.setups.specs.Plan.{guest_at}
+use Rattle.setups.specs.Supply.{free?}
 use Rattle.waiting.specs.declared.Rank.{Rank}
 use Rattle.waiting.specs.Earliest.{earliest}
 use Rattle.waiting.specs.Change.{with_change}
@@ -19,7 +20,8 @@ has_budget v = nat_lt 0 v.left
 abbrev pub server_rank : Server → Rank
 server_rank v = record { first = v.boundary; second = v.guest }
 
--- the server of a guest at slot s: where a period starts it has its whole budget, and the next boundary, whatever was left
+-- the server of a guest at slot s: where a period starts it has its whole budget, and the next boundary,
+-- whatever was left
 abbrev pub with_refill : ℕ → Guest → Server → Server
 with_refill s g v = cond (s % g.period == 0) (record { guest = v.guest; left = g.budget; boundary = s + g.period }) v
 
@@ -35,7 +37,8 @@ server_at vs i = slice_index_or vs i no_server
 unfoldable pub with_refills : ℕ → List Guest → List Server → List Server
 with_refills s gs vs = map (λ i. with_refill s (guest_at gs i) (server_at vs i)) (range_with_len 0 (length gs))
 
--- the place of the server that goes first: of those with budget left the one with the nearest boundary, and of equal boundaries the least guest
+-- the place of the server that goes first: of those with budget left the one with the nearest boundary,
+-- and of equal boundaries the least guest
 abbrev pub first_server : List Server → Option ℕ
 first_server vs = earliest has_budget server_rank vs
 
@@ -56,9 +59,12 @@ abbrev pub free_turn : Option ℕ → Turn
 free_turn None = Unassigned
 free_turn (Some i) = Granted (i + 1)
 
--- whose turn slot s is: the fixed operation that its table byte names, or the guest of the server that goes first after the refills, or nobody's
+-- whose turn slot s is: the fixed operation that its table byte names,
+-- or the guest of the server that goes first after the refills, or nobody's
 abbrev pub turn_of : List ℕ → List Guest → ℕ → List Server → Turn
-turn_of table gs s vs = let p = byte_at table s in cond (free? p) (free_turn (first_server (with_refills s gs vs))) (Fixed p)
+turn_of table gs s vs =
+    let p = byte_at table s in
+    cond (free? p) (free_turn (first_server (with_refills s gs vs))) (Fixed p)
 
 -- the servers after slot s
 abbrev pub after_slot : List ℕ → List Guest → ℕ → List Server → List Server

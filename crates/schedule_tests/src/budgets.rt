@@ -1,5 +1,5 @@
-// Tests of a budget as large as may be, and of as many guests as a setup may have.
-use crate::samples::*;
+//! Tests of a budget as large as may be, and of as many guests as a setup may have.
+use crate::timetables::*;
 use schedule::Turn;
 
 #[test]

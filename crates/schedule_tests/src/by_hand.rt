@@ -1,6 +1,8 @@
-// Tests of turns that are worked out by hand. In a row of turns A and B are the fixed operations 1 and 2, digits are guests, and a dot is a slot that is nobody's.
-use crate::samples::*;
+//! Tests of turns that are worked out by hand. In a row of turns A and B are the fixed operations 1 and 2,
+//! digits are guests, and a dot is a slot that is nobody's.
+use crate::timetables::*;
 use admission::{Guest, Setup, judge};
+use samples::{REGISTERS, SETUP_A, TABLE_A};
 use schedule::{Turn, TurnNumbers};
 use std::process::Abort;
 

@@ -1,4 +1,5 @@
-// Tests of timetables: turns worked out by hand, turns found in another way, budgets at their edges, the list that is filled in, refusals, and servers slot by slot.
+//! Tests of timetables: turns worked out by hand, turns found in another way, budgets at their edges,
+//! the list that is filled in, refusals, and servers slot by slot.
 #![tactic(auto)]
 
 #[cfg(test)]
@@ -10,4 +11,4 @@ mod lists;
 #[cfg(test)]
 mod other_way;
 #[cfg(test)]
-mod samples;
+mod timetables;

@@ -1,7 +1,8 @@
-// Tests of the list that is filled in, of refusals, and of servers slot by slot.
-use crate::samples::*;
+//! Tests of the list that is filled in, of refusals, and of servers slot by slot.
+use crate::timetables::*;
 use admission::{Setup, judge};
 use decline::{Decline, DeclineNumbers, Part};
+use samples::{REGISTERS, SETUP_A};
 use schedule::{Servers, timetable};
 use std::process::Abort;
 use std::test::Fail;

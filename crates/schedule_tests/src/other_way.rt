@@ -1,8 +1,9 @@
-// Tests of turns that are found in another way: not slot by slot, but period by period.
+//! Tests of turns that are found in another way: not slot by slot, but period by period.
 ghost use Rattle.std.specs.Prelude.{◌≤◌};
 
-use crate::samples::*;
+use crate::timetables::*;
 use admission::Guest;
+use samples::TABLE_A;
 use schedule::Turn;
 use std::array;
 use std::process::Abort;
@@ -37,7 +38,8 @@ fn server(n: u32) -> (u32, u32) {
     (12, rest % 11 + 1)
 }
 
-// The turns of a session. The period that ends first is granted its whole budget first, and of periods that end together that of the lesser guest; its grants are its first slots that are nobody's yet.
+// The turns of a session. The period that ends first is granted its whole budget first,
+// and of periods that end together that of the lesser guest; its grants are its first slots that are nobody's yet.
 fn by_periods(table: &[u8], guests: &[Guest]) -> [Turn; SLOTS] {
     let mut turns = [Turn::Unassigned; SLOTS];
     for (turn, byte) in turns.iter_mut().zip(table.iter().cycle()) {
@@ -67,7 +69,8 @@ fn grant_first(turns: &mut [Turn], start: usize, end: usize, guest: u8, budget: 
     }
 }
 
-// Whether the setup is accepted. If it is, its turns are those found by periods and each budget is granted; else no place of the list changes.
+// Whether the setup is accepted. If it is, its turns are those found by periods and each budget is granted;
+// else no place of the list changes.
 fn agrees(rt: &impl Abort, table: &[u8], guests: &[Guest]) -> bool {
     let (answer, turns) = filled::<SLOTS>(&setup(SLOTS as u32, table, guests));
     if answer.is_err() {

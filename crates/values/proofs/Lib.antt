@@ -1,3 +1,2 @@
-mod Confined
 mod Rows
 mod Runs

@@ -1,2 +1,2 @@
-pub mod Setups
+pub mod Calls
 pub mod Table

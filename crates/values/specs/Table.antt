@@ -2,22 +2,23 @@
 use Rattle.std.specs.Prelude.{◌≡◌, ℕ, ◌==◌, List, [], ◌∷◌, map, filter, length, Ok, Err, Result}
 use Rattle.std.specs.List.{range_with_len}
 use Rattle.decline.specs.declared.DeclineNumbers.{DeclineNumbers}
-use Rattle.journal.specs.declared.entries.Entry.{Entry}
-use Rattle.journal.specs.Entries.{fields_of}
+use Rattle.journal.specs.declared.fields.Fields.{Fields}
 use Rattle.journal.specs.Sums.{sum_a, sum_b}
 use Rattle.device.specs.Panel.{panel_at_start}
-use Rattle.admission.specs.Plan.{Plan}
-use Rattle.admission.specs.Supply.{supply}
+use Rattle.setups.specs.Plan.{Plan}
+use Rattle.setups.specs.Supply.{supply}
 use Rattle.admission.specs.Verdict.{IsVerdict}
 use Rattle.schedule.specs.declared.turn.Turn.{Turn}
 use Rattle.schedule.specs.declared.turn.Turn.TheVariants.{Unassigned, Fixed, Granted}
 use Rattle.schedule.specs.Timetable.{first_turns}
-use Rattle.rig.specs.Calls.{RigState, fresh_rig}
-use Rattle.runs.specs.declared.calls.Reply.TheVariants.{Released}
-use Rattle.runs.specs.Asks.{Ask, load, Answer, Exchange, exchanges}
-use Rattle.runs.specs.Runs.{HasRun}
-use Rattle.runs.specs.Laws.{entries, answers_to}
-use Rattle.values.specs.Setups.{table_a, two_fixed, setup_a, one_guest, slots, three_releases}
+use Rattle.rig.specs.Calls.{PlanCall, load}
+use Rattle.rig.specs.Replies.{NumberedAnswer}
+use Rattle.rig.specs.Step.{RigState, fresh_rig}
+use Rattle.runs.specs.Traces.{Exchange, exchanges, AreMade}
+use Rattle.runs.specs.Entries.{entries}
+use Rattle.runs.specs.Laws.{released, answers_to}
+use Rattle.samples.specs.Setups.{table_a, two_fixed, setup_a, setup_a_with, one_guest}
+use Rattle.values.specs.Calls.{slots, three_releases}
 
 -- the kinds of worked values
 pub data Row : Type 0 where
@@ -32,27 +33,30 @@ pub data Row : Type 0 where
   -- the turns of slots 0, 1 and so on of this plan are these
   turns : Plan → List Turn → Row
   -- when a panel's rig is loaded with this plan and then called so, the entries are of these kinds, and of these guests
-  run_entries : Plan → List Ask → List ℕ → List ℕ → Row
-  -- when a panel's rig is loaded with this plan and then called so, this guest is answered so, and these slots are used
-  run_answers : Plan → List Ask → ℕ → List Answer → List ℕ → Row
+  run_entries : Plan → List PlanCall → List ℕ → List ℕ → Row
+  -- when a panel's rig is loaded with this plan and then called so, this guest is answered so, and these slots are
+  -- used
+  run_answers : Plan → List PlanCall → ℕ → List NumberedAnswer → List ℕ → Row
 
 -- the slots of the used ones of some entries
-abbrev pub used_slots : List Entry → List ℕ
-used_slots es = map (λ e. e.slot) (filter (λ e. (fields_of e).kind == 2) es)
+abbrev pub used_slots : List Fields → List ℕ
+used_slots es = map (λ e. e.slot) (filter (λ e. e.kind == 2) es)
 
 -- the entries of some calls are of these kinds, and of these guests, with 0 where they are of none
 pub record EntriesAre (ks gs : List ℕ) (xs : List Exchange) : Type 0 where
-  pub kinds : map (λ e. (fields_of e).kind) (entries xs) ≡ ks
-  pub guests : map (λ e. (fields_of e).guest) (entries xs) ≡ gs
+  pub kinds : map (λ e. e.kind) (entries xs) ≡ ks
+  pub guests : map (λ e. e.guest) (entries xs) ≡ gs
 
 -- in some calls a guest is answered so, and these slots are used
-pub record AnswersAre (g : ℕ) (as′ : List Answer) (used : List ℕ) (xs : List Exchange) : Type 0 where
+pub record AnswersAre (g : ℕ) (as′ : List NumberedAnswer) (used : List ℕ) (xs : List Exchange) : Type 0 where
   pub answers : answers_to g xs ≡ as′
   pub uses : used_slots (entries xs) ≡ used
 
--- this is so of the calls and answers of every run of a fresh rig around a panel at its start that is loaded with this plan and then called so
-abbrev pub InEachRun : Plan → List Ask → (List Exchange → Type 0) → Type 0
-InEachRun p calls so = (answers : List Answer) (after : RigState) → HasRun (fresh_rig panel_at_start) (load p ∷ calls) answers after → so (exchanges (load p ∷ calls) answers)
+-- this is so of the calls and answers of every run of a fresh rig around a panel at its start that is loaded with this
+-- plan and then called so
+abbrev pub InEachRun : Plan → List PlanCall → (List Exchange → Type 0) → Type 0
+InEachRun p calls so = (answers : List NumberedAnswer) (after : RigState)
+    → AreMade (fresh_rig panel_at_start) (load p ∷ calls) answers after → so (exchanges (load p ∷ calls) answers)
 
 -- what a row says
 abbrev pub Holds : Row → Type 0
@@ -79,15 +83,18 @@ table =
     block_sums (1 ∷ 2 ∷ []) 3 5
     ∷ supplies table_a (0 ∷ 0 ∷ 1 ∷ 2 ∷ 3 ∷ 4 ∷ 4 ∷ 5 ∷ 6 ∷ 7 ∷ [])
     ∷ supply_is table_a 26 20
-    ∷ verdict (setup_a 10 3) 64 (Ok tt)
-    ∷ verdict (setup_a 8 3) 64 (Ok tt)
-    ∷ verdict (setup_a 7 3) 64 (refused 10 1 7)
-    ∷ verdict (setup_a 10 4) 64 (refused 7 0 0)
+    ∷ verdict setup_a 64 (Ok tt)
+    ∷ verdict (setup_a_with 8 3) 64 (Ok tt)
+    ∷ verdict (setup_a_with 7 3) 64 (refused 10 1 7)
+    ∷ verdict (setup_a_with 10 4) 64 (refused 7 0 0)
     ∷ verdict (one_guest two_fixed 2 1) 64 (refused 8 0 2)
     ∷ verdict (one_guest (0 ∷ []) 100 1) 64 (Ok tt)
     ∷ verdict (one_guest (0 ∷ []) 101 1) 64 (refused 9 1 0)
-    ∷ turns (setup_a 10 3)
-    (Fixed 1 ∷ Granted 1 ∷ Granted 1 ∷ Granted 2 ∷ Granted 2 ∷ Fixed 1 ∷ Granted 1 ∷ Granted 1 ∷ Granted 2 ∷ Unassigned ∷ [])
-    ∷ run_entries (setup_a 10 3) (slots 10) (1 ∷ 3 ∷ 3 ∷ 3 ∷ 3 ∷ 1 ∷ 3 ∷ 3 ∷ 3 ∷ 0 ∷ []) (0 ∷ 1 ∷ 1 ∷ 2 ∷ 2 ∷ 0 ∷ 1 ∷ 1 ∷ 2 ∷ 0 ∷ [])
-    ∷ run_answers (setup_a 10 3) three_releases 1 (Ok (Released 10) ∷ refused 15 1 20 ∷ Ok (Released 30) ∷ []) (1 ∷ 2 ∷ [])
+    ∷ turns setup_a
+    (Fixed 1 ∷ Granted 1 ∷ Granted 1 ∷ Granted 2 ∷ Granted 2
+    ∷ Fixed 1 ∷ Granted 1 ∷ Granted 1 ∷ Granted 2 ∷ Unassigned ∷ [])
+    ∷ run_entries setup_a (slots 10) (1 ∷ 3 ∷ 3 ∷ 3 ∷ 3 ∷ 1 ∷ 3 ∷ 3 ∷ 3 ∷ 0 ∷ [])
+    (0 ∷ 1 ∷ 1 ∷ 2 ∷ 2 ∷ 0 ∷ 1 ∷ 1 ∷ 2 ∷ 0 ∷ [])
+    ∷ run_answers setup_a three_releases 1
+    (released 10 ∷ refused 15 1 20 ∷ released 30 ∷ []) (1 ∷ 2 ∷ [])
     ∷ []

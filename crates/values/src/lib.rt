@@ -1,18 +1,30 @@
-// The worked values of the product, proved as one table.
+//! The worked values of the product, proved as one table.
 #![tactic(auto)]
 
 ghost use Rattle.std.specs.Prelude.{◌≡◌, length};
 ghost use Rattle.values.specs.Table.{AllHold, table};
 
+use samples::{
+    period_100, period_101, setup_a, setup_a_budget_4, setup_a_due_7, setup_a_due_8, two_fixed,
+};
+
 // How many rows of the table speak of admission.
 const ADMISSION_ROWS: usize = 9;
 
-// Every row of the table holds; there is nothing to do.
+// Every row of the table holds, by the verdicts that the samples promise.
 fn table_holds()
     ensures { AllHold table }
-{}
+{
+    setup_a();
+    setup_a_due_8();
+    setup_a_due_7();
+    setup_a_budget_4();
+    two_fixed();
+    period_100();
+    period_101();
+}
 
-// How many rows the table of worked values has. Every row of it holds.
+/// How many rows the table of worked values has. Every row of it holds.
 pub fn worked_values() -> usize
     ensures rows { result ≡ length table }
     ensures hold { AllHold table }

@@ -1,5 +1,6 @@
 -- The best of the first records of a list.
-use Rattle.std.proofs.Common.{◌≡◌, sym, ap, ◌∙◌, ℕ, ◌<◌, ◌≤◌, Bool, true, false, List, [], ◌∷◌, length, slice_index_or, Option, Some, None, arith, ◌+◌, ⊎_elim, subst, zero, suc}
+use Rattle.std.proofs.Common.{◌≡◌, sym, ap, ◌∙◌, ℕ, ◌<◌, ◌≤◌, Bool, true, false, List, [], ◌∷◌, length}
+use Rattle.std.proofs.Common.{slice_index_or, Option, Some, None, arith, ◌+◌, ⊎_elim, subst, zero, suc}
 use Rattle.std.specs.Option.{option_map}
 use Rattle.std.proofs.lemmas.Option.{get_or_from_slice_get, slice_get_within, slice_get-get_or}
 use Rattle.std.proofs.lemmas.List.{get_or_default}
@@ -14,8 +15,10 @@ module _ {R : Type 0} (waits : R → Bool) (rank : R → Rank) where
     pub within : p < n
     pub waiting : (d : R) → waits (slice_index_or xs p d) ≡ true
     pub ranked : (d : R) → rank (slice_index_or xs p d) ≡ r
-    pub least : (q : ℕ) (d : R) → q < n → waits (slice_index_or xs q d) ≡ true → ranks_before (rank (slice_index_or xs q d)) r ≡ false
-    pub first : (q : ℕ) (d : R) → q < n → waits (slice_index_or xs q d) ≡ true → rank (slice_index_or xs q d) ≡ r → p ≤ q
+    pub least : (q : ℕ) (d : R) → q < n → waits (slice_index_or xs q d) ≡ true
+        → ranks_before (rank (slice_index_or xs q d)) r ≡ false
+    pub first : (q : ℕ) (d : R) → q < n → waits (slice_index_or xs q d) ≡ true → rank (slice_index_or xs q d) ≡ r
+        → p ≤ q
 
   -- the best of the first n records, or none if none of them waits
   abbrev pub IsBest : List R → ℕ → Option (ℕ × Rank) → Type 0
@@ -23,7 +26,8 @@ module _ {R : Type 0} (waits : R → Bool) (rank : R → Rank) where
   IsBest xs n (Some b) = GoesFirstOf xs n b.0 b.1
 
   -- the best of all records goes first
-  goes_first : (xs : List R) (y : R) (p : ℕ) (r : Rank) → GoesFirstOf xs (length xs) p r → GoesFirst waits rank xs p (slice_index_or xs p y)
+  goes_first : (xs : List R) (y : R) (p : ℕ) (r : Rank) → GoesFirstOf xs (length xs) p r
+      → GoesFirst waits rank xs p (slice_index_or xs p y)
   goes_first xs y p r best = record {
     there = slice_get-get_or xs p y best.within;
     waiting = best.waiting y;
@@ -37,7 +41,8 @@ module _ {R : Type 0} (waits : R → Bool) (rank : R → Rank) where
   }
 
   -- an answer that names the best of all records, or none where none waits, names the record that goes first
-  pub best_names_first : (xs : List R) (b : Option (ℕ × Rank)) → IsBest xs (length xs) b → NamesFirst waits rank xs (option_map (λ c. c.0) b)
+  pub best_names_first : (xs : List R) (b : Option (ℕ × Rank)) → IsBest xs (length xs) b
+      → NamesFirst waits rank xs (option_map (λ c. c.0) b)
   best_names_first xs None none = none
   best_names_first [] (Some b) best = absurd (omega (arith, best.within))
   best_names_first (y ∷ xs) (Some b) best = (slice_index_or (y ∷ xs) b.0 y, goes_first (y ∷ xs) y b.0 b.1 best)
@@ -46,7 +51,9 @@ module _ {R : Type 0} (waits : R → Bool) (rank : R → Rank) where
   module _ (xs : List R) (n : ℕ) (d : R) (inside : n < length xs) where
     -- a place of the records so far is an earlier one or the last one
     earlier_or_last : (P : ℕ → Type 0) → ((q : ℕ) → q < n → P q) → P n → (q : ℕ) → q < n + 1 → P q
-    earlier_or_last P earlier last q l = ⊎_elim (λ below. earlier q below) (λ past. let here : n ≡ q = omega (arith, l, past) in subst P here last) (cases_lt q n)
+    earlier_or_last P earlier last q l =
+        ⊎_elim (λ below. earlier q below) (λ past. let here : n ≡ q = omega (arith, l, past) in subst P here last)
+        (cases_lt q n)
 
     -- the last record
     abbrev last : R
@@ -58,16 +65,20 @@ module _ {R : Type 0} (waits : R → Bool) (rank : R → Rank) where
 
     -- it does not wait, and none before it does
     none_waits : waits last ≡ false → IsBest xs n None → IsBest xs (n + 1) None
-    none_waits idle none q e = earlier_or_last (λ k. waits (slice_index_or xs k e) ≡ false) (λ k below. none k e below) (ap waits (last_is e) ∙ idle) q
+    none_waits idle none q e =
+        earlier_or_last (λ k. waits (slice_index_or xs k e) ≡ false) (λ k below. none k e below)
+        (ap waits (last_is e) ∙ idle) q
 
     -- it does not wait with a lesser rank: the best stays
-    stays : (p : ℕ) (r : Rank) → (waits last ≡ true → ranks_before (rank last) r ≡ false) → GoesFirstOf xs n p r → GoesFirstOf xs (n + 1) p r
+    stays : (p : ℕ) (r : Rank) → (waits last ≡ true → ranks_before (rank last) r ≡ false) → GoesFirstOf xs n p r
+        → GoesFirstOf xs (n + 1) p r
     stays p r not_less best = record {
       within = omega (arith, best.within);
       waiting = best.waiting;
       ranked = best.ranked;
       least = λ q e.
-          earlier_or_last (λ k. waits (slice_index_or xs k e) ≡ true → ranks_before (rank (slice_index_or xs k e)) r ≡ false)
+          earlier_or_last
+          (λ k. waits (slice_index_or xs k e) ≡ true → ranks_before (rank (slice_index_or xs k e)) r ≡ false)
           (λ k below. best.least k e below)
           (λ ready. ap (λ x. ranks_before (rank x) r) (last_is e) ∙ not_less (ap waits (sym (last_is e)) ∙ ready)) q;
       first = λ q e.
@@ -77,18 +88,22 @@ module _ {R : Type 0} (waits : R → Bool) (rank : R → Rank) where
     }
 
     -- it waits, and each one before it that waits has a greater rank: it goes first
-    takes_over : waits last ≡ true → ((q : ℕ) (e : R) → q < n → waits (slice_index_or xs q e) ≡ true → ranks_before (rank last) (rank (slice_index_or xs q e)) ≡ true) → GoesFirstOf xs (n + 1) n (rank last)
+    takes_over : waits last ≡ true
+        → ((q : ℕ) (e : R) → q < n → waits (slice_index_or xs q e) ≡ true
+        → ranks_before (rank last) (rank (slice_index_or xs q e)) ≡ true) → GoesFirstOf xs (n + 1) n (rank last)
     takes_over ready greater = record {
       within = omega arith;
       waiting = λ e. ap waits (last_is e) ∙ ready;
       ranked = λ e. ap rank (last_is e);
       least = λ q e.
-          earlier_or_last (λ k. waits (slice_index_or xs k e) ≡ true → ranks_before (rank (slice_index_or xs k e)) (rank last) ≡ false)
+          earlier_or_last
+          (λ k. waits (slice_index_or xs k e) ≡ true → ranks_before (rank (slice_index_or xs k e)) (rank last) ≡ false)
           (λ k below waiting. before_one_way (rank last) (rank (slice_index_or xs k e)) (greater k e below waiting))
           (λ _. ap (λ x. ranks_before (rank x) (rank last)) (last_is e) ∙ not_before_itself (rank last)) q;
       first = λ q e.
           earlier_or_last (λ k. waits (slice_index_or xs k e) ≡ true → rank (slice_index_or xs k e) ≡ rank last → n ≤ k)
-          (λ k below waiting same. absurd (before_and_equal (rank last) (rank (slice_index_or xs k e)) (greater k e below waiting) same))
+          (λ k below waiting same.
+          absurd (before_and_equal (rank last) (rank (slice_index_or xs k e)) (greater k e below waiting) same))
           (λ _ _. omega arith) q;
     }
 
@@ -106,11 +121,20 @@ module _ {R : Type 0} (waits : R → Bool) (rank : R → Rank) where
         idles (Some b) best idle = stays b.0 b.1 (λ ready. absurd (true≢false (sym ready ∙ idle))) best
 
         -- the last one waits
-        among : (b : Option (ℕ × Rank)) → IsBest xs n b → waits last ≡ true → (c : Option (ℕ × Rank)) × IsBest xs (n + 1) c
-        among None none ready = (Some (n, rank last), takes_over ready (λ q e below waiting. absurd (true≢false (sym waiting ∙ none q e below))))
+        among : (b : Option (ℕ × Rank)) → IsBest xs n b → waits last ≡ true
+            → (c : Option (ℕ × Rank)) × IsBest xs (n + 1) c
+        among None none ready = (
+          Some (n, rank last),
+          takes_over ready
+              (λ q e below waiting. absurd (true≢false (sym waiting ∙ none q e below))),
+        )
         among (Some b) best ready =
             ⊎_elim
-            (λ less. (Some (n, rank last), takes_over ready (λ q e below waiting. before_no_less (rank last) b.1 (rank (slice_index_or xs q e)) less (best.least q e below waiting))))
+            (λ less. (
+              Some (n, rank last),
+              takes_over ready (λ q e below waiting.
+                  before_no_less (rank last) b.1 (rank (slice_index_or xs q e)) less (best.least q e below waiting)),
+            ))
             (λ not_less. (Some b, stays b.0 b.1 (λ _. not_less) best))
             (cases_Bool (ranks_before (rank last) b.1))
 

@@ -1,5 +1,6 @@
 -- Which of some waiting records goes first.
-use Rattle.std.specs.Prelude.{◌≡◌, ℕ, ◌≤◌, Bool, false, not, ◌&&◌, ◌||◌, ◌==◌, nat_lt, List, position, slice_get, IsTrue, Option, Some, MatchOption}
+use Rattle.std.specs.Prelude.{◌≡◌, ℕ, ◌≤◌, Bool, false, not, ◌&&◌, ◌||◌, ◌==◌, nat_lt}
+use Rattle.std.specs.Prelude.{List, position, slice_get, IsTrue, Option, Some, MatchOption}
 use Rattle.std.specs.List.{list_any, All}
 use Rattle.waiting.specs.declared.Rank.{Rank}
 

@@ -1,4 +1,4 @@
-// Waiting lists: which record of a lent list goes first, for every kind of record that has a rank.
+//! Waiting lists: which record of a lent list goes first, for every kind of record that has a rank.
 #![tactic(auto)]
 
 ghost use Rattle.std.specs.Prelude.{◌≡◌, slice_set};
@@ -9,14 +9,16 @@ ghost use Rattle.waiting.specs.Replace.{replace_answer};
 
 use decline::Decline;
 
-// How early a record goes. Ranks compare by their first number, and where that is equal by the second.
+/// How early a record goes. Ranks compare by their first number, and where that is equal by the second.
 #[derive(Clone, Copy, PartialEq, Eq, PartialOrd, Ord, Debug)]
 pub struct Rank {
+    /// What is compared first.
     pub first: u32,
+    /// What decides between equal first numbers.
     pub second: u32,
 }
 
-// A record that may wait, and has a rank.
+/// A record that may wait, and has a rank.
 pub trait Waits {
     ghost use Rattle.std.specs.Prelude.{Bool};
     ghost use Rattle.waiting.specs.declared.Rank.{Rank};
@@ -25,11 +27,11 @@ pub trait Waits {
 
     ghost rank: { Self → Rank };
 
-    // Whether it waits.
+    /// Whether it waits.
     fn waits(&self) -> bool
         ensures { result ≡ waits self.now };
 
-    // Its rank. The least goes first.
+    /// Its rank. The least goes first.
     fn rank(&self) -> Rank
         ensures { result ≡ rank self.now };
 }
@@ -49,14 +51,14 @@ fn earliest_of<R: Waits>(records: &mut [R]) -> Option<usize>
     best.map(|(position, _)| position)
 }
 
-// Records that a caller lends, of which some may wait.
+/// Records that a caller lends, of which some may wait.
 #[derive(Debug, Drop)]
 pub struct WaitingList<'a, R> {
     records: &'a mut [R],
 }
 
 impl<'a, R> WaitingList<'a, R> {
-    // A list of these records.
+    /// A list of these records.
     pub fn over(records: &'a mut [R]) -> WaitingList<'a, R>
         ensures records { records_of result ≡ records.old }
         ensures lent { loan_of result ≡ records.entry.ghost_name }
@@ -64,7 +66,8 @@ impl<'a, R> WaitingList<'a, R> {
         WaitingList { records }
     }
 
-    // The position, from 0, of the waiting record of least rank, and of equal ranks the first. It changes nothing, though it takes the list for writing, which a rule of the project asks for.
+    /// The position, from 0, of the waiting record of least rank, and of equal ranks the first. It changes nothing. It
+    /// takes the list for writing, as one that had to move or to remember something in order to answer would.
     pub fn earliest(&mut self) -> Option<usize>
     where
         R: Waits,
@@ -76,7 +79,7 @@ impl<'a, R> WaitingList<'a, R> {
         earliest_of(self.records)
     }
 
-    // Puts a record at a position, from 0.
+    /// Puts a record at a position, from 0.
     pub fn replace(&mut self, position: usize, replacement: R) -> Result<(), Decline>
     where
         R: Drop,

@@ -1,4 +1,4 @@
-// Tests of waiting lists, with two kinds of records and a caller that lends its own array.
+//! Tests of waiting lists, with two kinds of records and a caller that lends its own array.
 #![tactic(auto)]
 
 pub mod callers;

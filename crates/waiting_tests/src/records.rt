@@ -1,9 +1,10 @@
-// Two kinds of records that wait.
+//! Two kinds of records that wait.
 ghost use Rattle.waiting_tests.specs.Kinds.{server_waits, server_rank, job_waits, job_rank};
 
 use waiting::{Rank, Waits};
 
-// A guest's server: it waits while it has budget left, and the nearest boundary goes first, then the least guest number.
+/// A guest's server: it waits while it has budget left, and the nearest boundary goes first,
+/// then the least guest number.
 #[derive(Clone, Copy, PartialEq, Eq, Debug)]
 pub struct Server {
     pub budget: u32,
@@ -28,7 +29,7 @@ impl Waits for Server {
     }
 }
 
-// A task's job: it waits while it is pending, and the nearest deadline goes first, then the least task number.
+/// A task's job: it waits while it is pending, and the nearest deadline goes first, then the least task number.
 #[derive(Clone, Copy, PartialEq, Eq, Debug)]
 pub struct Job {
     pub pending: bool,

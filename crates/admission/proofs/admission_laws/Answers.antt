@@ -1,14 +1,16 @@
-use Rattle.admission.proofs.Windows.{supply_is_least, supply_repeats}
-use Rattle.admission.proofs.Bounds.{link_confined, tasks_confined, tasks_confined_by_pauses}
-use Rattle.admission.proofs.Unique.{one_verdict}
+use Rattle.setups.proofs.SlotWindows.{supply_least, supply_law}
+use Rattle.admission.specs.Laws.{SupplyIsLeast, SupplyRepeats}
+use Rattle.admission.proofs.SearchBounds.{link_search_bound, tasks_search_bound, tasks_search_bound_by_pauses}
+use Rattle.admission.proofs.UniqueVerdict.{one_verdict}
 use Rattle.admission.proofs.admission_laws.Goals as goal
 
 pub returns : goal.returns
+unfolding SupplyIsLeast SupplyRepeats
 returns c = record {
   one = one_verdict;
-  least = supply_is_least;
-  repeats = supply_repeats;
-  link = link_confined;
-  tasks = tasks_confined;
-  pauses = tasks_confined_by_pauses;
+  least = supply_least;
+  repeats = λ table t le. supply_law table t;
+  link = link_search_bound;
+  tasks = tasks_search_bound;
+  pauses = tasks_search_bound_by_pauses;
 }

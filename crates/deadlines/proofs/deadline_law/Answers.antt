@@ -1,5 +1,5 @@
-use Rattle.deadlines.proofs.Streams.{deadlines_kept}
+use Rattle.deadlines.proofs.Lateness.{due_work_is_done}
 use Rattle.deadlines.proofs.deadline_law.Goals as goal
 
 pub returns : goal.returns
-returns c = record { kept = deadlines_kept }
+returns c = record { done = due_work_is_done }

@@ -1,8 +1,15 @@
-use Rattle.std.proofs.Common.{refl}
-use Rattle.values.proofs.Rows.{supplies_a, supply_a_26, accepted_a_10, accepted_a_8, declined_a_7, declined_a_budget_4, declined_two_fixed, accepted_100, declined_101, turns_a}
+use Rattle.std.proofs.Common.{drop, refl}
+use Rattle.values.specs.Table.{AllHold, table}
+use Rattle.values.proofs.Rows.{supplies_a, supply_a_26, turns_a}
 use Rattle.values.proofs.Runs.{entries_a, releases_a}
 use Rattle.values.proofs.table_holds.Goals as goal
 
 pub returns : goal.returns
 returns c =
-    ((refl, refl), (supplies_a, (supply_a_26, (accepted_a_10, (accepted_a_8, (declined_a_7, (declined_a_budget_4, (declined_two_fixed, (accepted_100, (declined_101, (turns_a, (entries_a, (releases_a, tt)))))))))))))
+    let a = c.setup_a.ensures in
+    let runs : AllHold (drop 10 table) = (turns_a, (entries_a a.never_declined, (releases_a a.never_declined, tt))) in
+    let others : AllHold (drop 7 table) =
+    (c.two_fixed.ensures.declined, (c.period_100.ensures.accepted, (c.period_101.ensures.declined, runs))) in
+    let later : AllHold (drop 5 table) =
+    (c.setup_a_due_7.ensures.declined, (c.setup_a_budget_4.ensures.declined, others)) in
+    ((refl, refl), (supplies_a, (supply_a_26, (a.accepted, (c.setup_a_due_8.ensures.accepted, later)))))

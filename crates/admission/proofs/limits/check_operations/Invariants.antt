@@ -1,8 +1,16 @@
-use Rattle.std.proofs.Common.{ℕ, ◌<◌}
-use Rattle.admission.specs.Plan.{operation_start, Owns}
-use Rattle.admission.specs.Limits.{InsideAt}
+use Rattle.std.proofs.Common.{ℕ, ◌<◌, List}
+use Rattle.setups.specs.declared.setup.Guest.{Guest}
+use Rattle.setups.specs.declared.setup.Operation.{Operation}
+use Rattle.setups.specs.Plan.{operation_at, operation_start, OwnsPlace, ValueFits}
+use Rattle.setups.specs.Limits.{InsideAt}
 use Rattle.admission.proofs.limits.check_operations.Given as goal
+
+-- operation q keeps the rule of guest k, and what it writes has 16 bits
+pub record KeepsRule (gs : List Guest) (os : List Operation) (k q : ℕ) : Type 0 where
+  pub inside : InsideAt gs os k q
+  pub value : ValueFits (operation_at os q)
 
 abbrev pub invariant-loop-i : goal.invariant-loop-i
 invariant-loop-i l =
-    (k q : ℕ) → k < l.i → Owns (operation_start l.parties.guests.now l.parties.tasks.now) k q → InsideAt l.parties.guests.now l.operations k q
+    (k q : ℕ) → k < l.i → OwnsPlace (operation_start l.guest_tasks.guests.now l.guest_tasks.tasks.now) k q
+    → KeepsRule l.guest_tasks.guests.now l.operations k q

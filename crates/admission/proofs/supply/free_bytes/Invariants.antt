@@ -1,5 +1,5 @@
 use Rattle.std.proofs.Common.{◌≡◌, ◌≤◌, take}
-use Rattle.admission.specs.Supply.{free_bytes}
+use Rattle.setups.specs.Supply.{free_bytes}
 use Rattle.admission.proofs.supply.free_bytes.Given as goal
 
 abbrev pub invariant-loop-byte : goal.invariant-loop-byte

@@ -9,4 +9,5 @@ invariant_of-drawing-clause-some g c = let sizes = c.in-Ok.ensures.turns.0.form.
 
 -- no more turns are filled in than there are places
 pub invariant_of-drawing-clause-short : goal.invariant_of-drawing-clause-short
-invariant_of-drawing-clause-short g c = omega (arith, length-take {A = Turn}, c.in-Ok.ensures.turns.1, c.min-covered.ensures)
+invariant_of-drawing-clause-short g c =
+    omega (arith, length-take {A = Turn}, c.in-Ok.ensures.turns.1, c.min-covered.ensures)

@@ -8,4 +8,5 @@ pub returns-clause-value : goal.returns-clause-value
 returns-clause-value c =
     let ok = place_lawful c.args.block.now in
     failing_found ok _ c.find.result
-    (first_from_Range _ _ _ _ (λ e. ok e ≡ false) (λ e. ok e ≡ true) c.find.ensures.ran (λ x q k. search (rules, tests)) (λ x q k. search (rules, tests)))
+    (first_from_Range _ _ _ _ (λ e. ok e ≡ false) (λ e. ok e ≡ true) c.find.ensures.ran (λ x q k. search (rules, tests))
+    (λ x q k. search (rules, tests)))

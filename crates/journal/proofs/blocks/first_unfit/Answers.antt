@@ -12,7 +12,8 @@ pub returns-clause-value : goal.returns-clause-value
 returns-clause-value c =
     let entries = c.args.entries.now in
     let test : ℕ × Entry → Bool = λ p. fits (first_slot entries + p.0) (fields_of p.1) in
-    failing_listed (entry_fits entries) test entries (record { slot = 0; event = Unassigned }) (λ k lt. refl) c.position.result
+    failing_listed (entry_fits entries) test entries (record { slot = 0; event = Unassigned })
+    (λ k lt. refl) c.position.result
     (IsFirst-from_position _ _ c.position.result (λ p. test p ≡ false) (λ p. test p ≡ true) c.position.ensures.ran
     (YieldsList-from_enumerate (YieldsList-from_slice entries cc) cc)
     (λ x q k. search (rules, tests)) (λ x q k. search (rules, tests)))

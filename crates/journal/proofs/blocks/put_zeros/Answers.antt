@@ -7,6 +7,8 @@ pub returns : goal.returns
 returns c =
     let long : 508 - c.args.from ≤ length (drop c.args.from c.args.block.now) = simp length-drop (omega arith) in
     let n = length-take-le (508 - c.args.from) (drop c.args.from c.args.block.now) long in
-    let zeros : c.fill.new.self ≡ replicate (508 - c.args.from) 0 = c.fill.ensures.after (λ y e. e) ∙ ap (λ (k : ℕ). replicate k 0) n in
+    let zeros : c.fill.new.self ≡ replicate (508 - c.args.from) 0 =
+    c.fill.ensures.after (λ y e. e) ∙ ap (λ (k : ℕ). replicate k 0) n in
     let h : c.args.from ≤ length c.args.block.now = omega arith in
-    simp zeros (take-put_mid c.args.from (508 - c.args.from) c.args.block.now (replicate (508 - c.args.from) 0) 508 (omega (arith, length-replicate {A = ℕ} (508 - c.args.from) 0)) h)
+    simp zeros (take-put_mid c.args.from (508 - c.args.from) c.args.block.now (replicate (508 - c.args.from) 0) 508
+    (omega (arith, length-replicate {A = ℕ} (508 - c.args.from) 0)) h)

@@ -1,5 +1,5 @@
 use Rattle.std.proofs.Common.{◌+◌, ap}
-use Rattle.admission.specs.Plan.{task_start}
+use Rattle.setups.specs.Plan.{task_start}
 use Rattle.rig.proofs.parts.task_place.Goals as goal
 
 pub returns-clause-place : goal.returns-clause-place

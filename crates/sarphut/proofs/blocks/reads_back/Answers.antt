@@ -11,5 +11,8 @@ returns-then-number_read-number c =
     let places = replicate 31 (record { slot = 0; event = Unassigned }) in
     let heading = c.in_ok-number_read.field-0 in
     let answer = sym (ap by_numbers c.in_ok-number_read.was) ∙ c.read.ensures.answer in
-    let back = came_back c.args.number es c.write.new.block places c.read.new.places heading c.in_ok-write.ensures.reads_back refl answer c.read.ensures.after in
-    ap Ok (c.eq.ensures ∙ rw back (same_entries es)) ∙ ap same_after (sym (ap by_numbers c.in_ok-write.was) ∙ c.write.ensures.answer)
+    let back =
+    came_back c.args.number es c.write.new.block places c.read.new.places heading c.in_ok-write.ensures.reads_back refl
+    answer c.read.ensures.after in
+    ap Ok (c.eq.ensures ∙ rw back (same_entries es))
+    ∙ ap same_after (sym (ap by_numbers c.in_ok-write.was) ∙ c.write.ensures.answer)

@@ -13,5 +13,6 @@ loop-i-preserved c = (
 pub returns : goal.returns
 returns c =
     let all : c.loop-i.i ≡ 16 = omega (arith, c.loop-i.auto, c.loop-i-test.false) in
-    sym (take_all c.loop-i.i c.loop-i.servers (omega (arith, c.loop-i.invariant.0, c.loop-i-test.false))) ∙ c.loop-i.invariant.1
+    sym (take_all c.loop-i.i c.loop-i.servers (omega (arith, c.loop-i.invariant.0, c.loop-i-test.false)))
+    ∙ c.loop-i.invariant.1
     ∙ ap servers_at_start all

@@ -1,6 +1,6 @@
 use Rattle.std.proofs.Common.{◌≡◌, ◌+◌, ◌-◌, length, sym, ap, ◌∙◌, add-one, arith}
-use Rattle.admission.specs.Supply.{window_free, supply, least_to}
-use Rattle.admission.proofs.Windows.{window_le, window_front, window_slide, least_more}
+use Rattle.setups.specs.Supply.{window_free, supply, least_to}
+use Rattle.setups.proofs.SlotWindows.{window_le, window_front, window_slide, least_more}
 use Rattle.admission.proofs.supply.Table.least_window.Goals as goal
 
 pub loop-s-init : goal.loop-s-init

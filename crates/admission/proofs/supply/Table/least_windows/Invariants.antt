@@ -1,5 +1,5 @@
 use Rattle.std.proofs.Common.{◌≡◌, ℕ, ◌<◌, get_or}
-use Rattle.admission.specs.Supply.{supply}
+use Rattle.setups.specs.Supply.{supply}
 use Rattle.admission.proofs.supply.Table.least_windows.Given as goal
 
 abbrev pub invariant-loop-t : goal.invariant-loop-t

@@ -9,5 +9,6 @@ pub loop-number-preserved : goal.loop-number-preserved
 loop-number-preserved g c plain =
     let drawing = c.args.self.now in
     has_written_of_eq _ _ _ _ _
-    (texts_more (block_at drawing.table.now drawing.guests.now drawing.turns.now) 0 _ c.loop-number.number _ (omega arith) refl)
+    (texts_more (block_at drawing.table.now drawing.guests.now drawing.turns.now) 0 _ c.loop-number.number _
+    (omega arith) refl)
     (has_written_append _ _ _ _ _ _ (c.loop-number.invariant plain) (search rules))

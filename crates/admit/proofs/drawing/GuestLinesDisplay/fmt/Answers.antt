@@ -13,5 +13,6 @@ loop-i-preserved g c plain =
     let number : styled_decimal c.laid_out.result (c.loop-i.i + 1) ≡ wide_decimal (c.loop-i.i + 1) =
     ap (λ s. styled_decimal s (c.loop-i.i + 1)) c.laid_out.ensures ∙ left_aligned (c.loop-i.i + 1) in
     has_written_of_eq _ _ _ _ _
-    (texts_more (guest_line lines.guests.now lines.slots.first (lines.slots.end - lines.slots.first)) 0 _ c.loop-i.i _ (omega arith) refl)
+    (texts_more (guest_line lines.guests.now lines.slots.first (lines.slots.end - lines.slots.first)) 0 _ c.loop-i.i _
+    (omega arith) refl)
     (has_written_append _ _ _ _ _ _ so_far (rw number at (c.in_ok-writeln.ensures.writes so_far.plain refl)))

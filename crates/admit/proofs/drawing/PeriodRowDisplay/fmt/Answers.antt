@@ -8,5 +8,6 @@ use Rattle.admit.proofs.drawing.PeriodRowDisplay.fmt.Goals as goal
 pub loop-slot-preserved : goal.loop-slot-preserved
 loop-slot-preserved g c plain =
     has_written_of_eq _ _ _ _ _
-    (texts_more (λ s. encode_utf8 (period_mark c.args.self.now.period s)) c.args.self.now.slots.first _ c.loop-slot.slot _ (omega arith) (omega arith))
+    (texts_more (λ s. encode_utf8 (period_mark c.args.self.now.period s)) c.args.self.now.slots.first _ c.loop-slot.slot
+    _ (omega arith) (omega arith))
     (has_written_append _ _ _ _ _ _ (c.loop-slot.invariant plain) (search rules))

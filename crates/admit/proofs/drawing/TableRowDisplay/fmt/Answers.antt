@@ -9,5 +9,6 @@ use Rattle.admit.proofs.drawing.TableRowDisplay.fmt.Goals as goal
 pub loop-slot-preserved : goal.loop-slot-preserved
 loop-slot-preserved g c plain =
     has_written_of_eq _ _ _ _ _
-    (texts_more (λ s. encode_utf8 (byte_mark (byte_at c.args.self.now.table.now s))) c.args.self.now.slots.first _ c.loop-slot.slot _ (omega arith) (omega arith))
+    (texts_more (λ s. encode_utf8 (byte_mark (byte_at c.args.self.now.table.now s))) c.args.self.now.slots.first _
+    c.loop-slot.slot _ (omega arith) (omega arith))
     (has_written_append _ _ _ _ _ _ (c.loop-slot.invariant plain) (search rules))

@@ -1,23 +1,29 @@
-use Rattle.std.proofs.Common.{arith}
-use Rattle.admission.specs.Plan.{plan_of}
-use Rattle.rig.proofs.Kept.{kept_at_load}
-use Rattle.rig.proofs.Whose.{few_tasks, few_operations}
+use Rattle.std.proofs.Common.{rules, arith}
+use Rattle.setups.specs.Plan.{plan_of}
+use Rattle.rig.proofs.RigInvariant.{invariant_at_load}
+use Rattle.rig.proofs.Places.{few_tasks, few_operations}
 use Rattle.rig.proofs.tables.Tables.new.Goals as goal
-
-pub array_with-requires-2 : goal.array_with-requires-2
-array_with-requires-2 c = (omega arith, few_tasks (plan_of c.args.setup.now) c.args.registers c.in_ok-servers.ensures.0)
-
-pub array_with-requires-3 : goal.array_with-requires-3
-array_with-requires-3 c = (omega arith, few_operations (plan_of c.args.setup.now) c.args.registers c.in_ok-servers.ensures.0)
 
 pub invariant_of-result : goal.invariant_of-result
 invariant_of-result c =
     let p = plan_of c.args.setup.now in
-    let ok = c.in_ok-servers.ensures.0 in
-    rw (c.in_ok-servers.ensures.1, c.array_with.ensures, c.array_with-2.ensures, c.array_with-3.ensures, c.jobs_at_start.ensures) (
+    let ok = c.in_ok-servers.ensures.start.0 in
+    let fixed = c.array_with.ensures.whole ok.form.sizes.fixed in
+    let tasks = c.array_with-2.ensures.whole (few_tasks p c.args.registers ok) in
+    let operations = c.array_with-3.ensures.whole (few_operations p c.args.registers ok) in
+    rw (c.in_ok-servers.ensures.start.1, fixed, tasks, operations, c.jobs_at_start.ensures) (
       ok.form.sizes.fixed,
       few_tasks p c.args.registers ok,
       few_operations p c.args.registers ok,
       (ok.form.sizes.session.1, omega arith),
-      kept_at_load p c.args.registers ok,
+      invariant_at_load p c.args.registers ok,
     )
+
+pub returns-clause-tables : goal.returns-clause-tables
+returns-clause-tables c =
+    let p = plan_of c.args.setup.now in
+    let ok = c.in_ok-servers.ensures.start.0 in
+    let fixed = c.array_with.ensures.whole ok.form.sizes.fixed in
+    let tasks = c.array_with-2.ensures.whole (few_tasks p c.args.registers ok) in
+    let operations = c.array_with-3.ensures.whole (few_operations p c.args.registers ok) in
+    search rules

@@ -1,0 +1,4 @@
+pub mod Plan
+pub mod Supply
+pub mod Demand
+pub mod Limits
