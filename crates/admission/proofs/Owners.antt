@@ -2,7 +2,7 @@
 use Rattle.std.proofs.Common.{◌≡◌, ℕ, zero, suc, add-one, subst, ◌+◌, ◌-◌, ◌<◌, ◌≤◌, sym, ap, arith}
 use native.Mathlib.Decide.{dec_lt}
 use Rattle.setups.specs.Plan.{OwnsPlace}
-use Rattle.setups.proofs.Parts.{Monotone}
+use Rattle.setups.proofs.GuestPlaces.{Monotone}
 use Rattle.admission.specs.Verdict.{FirstFailingOwned}
 
 -- two numbers of which neither is less are equal

@@ -16,7 +16,7 @@ use Rattle.setups.specs.Demand.{server_task, server_share, server_shares, task_s
 use Rattle.setups.specs.Demand.{LinkServedAt, LinkServed, TasksHaveSpare, TasksServed}
 use Rattle.setups.specs.Limits.{TaskOk}
 use Rattle.admission.specs.TaskSets.{SporadicOk, TaskSetOk, task_set_shares}
-use Rattle.admission.specs.Laws.{LinkSearchBound, TasksSearchBound, PauseAtMost, TasksSearchBoundByPauses}
+use Rattle.admission.specs.AdmissionLaws.{LinkSearchBound, TasksSearchBound, PauseAtMost, TasksSearchBoundByPauses}
 use Rattle.setups.proofs.SlotWindows.{supply_law}
 use Rattle.admission.proofs.DemandSteps.{servers-task_set}
 

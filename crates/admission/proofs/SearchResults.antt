@@ -11,7 +11,7 @@ use Rattle.setups.specs.Demand.{TasksHaveSpare, TasksServedAt, TasksServed}
 use Rattle.setups.specs.Limits.{TaskOk}
 use Rattle.admission.specs.TaskSets.{TaskSetOk, TaskSetServedAt}
 use Rattle.admission.specs.Verdict.{FirstFailing}
-use Rattle.admission.specs.Laws.{TasksSearchBound}
+use Rattle.admission.specs.AdmissionLaws.{TasksSearchBound}
 use Rattle.admission.proofs.SearchBounds.{link_search_bound-task_set, tasks_search_bound, link_near}
 use Rattle.admission.proofs.DemandSteps.{task_set_demand-servers}
 

@@ -22,8 +22,8 @@ use Rattle.setups.specs.Limits.{TaskOkAt, FixedOk, FixedsOk, InsideAt, Operation
 use Rattle.admission.specs.Verdict.{FirstFailingRule, OnlyRefusal, FirstFailing, FirstFailingOwned, SizesFault}
 use Rattle.admission.specs.Verdict.{ServerOkAt, ServersFault, TasksFault, OperationsFault, LinkFault, GuestsFault}
 use Rattle.admission.specs.Verdict.{GuestsHaveSpare, GuestsServed, Schedulable, ScheduleFault, Accepted}
-use Rattle.admission.specs.Laws.{Exclusive, OneVerdict}
-use Rattle.setups.proofs.Parts.{Monotone, task_start_grows, operation_start_grows, task_start-within}
+use Rattle.admission.specs.AdmissionLaws.{Exclusive, OneVerdict}
+use Rattle.setups.proofs.GuestPlaces.{Monotone, task_start_grows, operation_start_grows, task_start-within}
 use Rattle.admission.proofs.Owners.{neither_less, owner_one}
 
 -- a rule that has one refusal

@@ -1,4 +1,4 @@
 pub mod TaskSets
 pub mod Verdict
-pub mod Laws
+pub mod AdmissionLaws
 pub mod Text

@@ -5,7 +5,7 @@ use Rattle.setups.specs.declared.limits.TheConstants.{LONGEST_SEPARATION}
 use Rattle.setups.specs.declared.setup.Task.{Task}
 use Rattle.setups.specs.Demand.{task_demand, task_share}
 
--- the limits that tasks keep, and servers as tasks
+-- the limits of a sporadic task, but for the cost limit of a setup; a server keeps them as a task
 pub record SporadicOk (k : Task) : Type 0 where
   pub some : 1 ≤ k.cost
   pub due : k.cost ≤ k.relative_deadline
@@ -16,13 +16,13 @@ pub record SporadicOk (k : Task) : Type 0 where
 abbrev pub DemandFlat : ℕ → ℕ → Task → Type 0
 DemandFlat t u k = (s : ℕ) → t ≤ s → s < u → task_demand s k ≤ task_demand t k
 
--- tasks, or others by what they are as tasks
+-- tasks, or servers by what they are as tasks
 module _ {X : Type 0} (task : X → Task) where
-  -- each of a set keeps these limits
+  -- each of a set keeps the limits of a sporadic task
   abbrev pub TaskSetOk : List X → Type 0
   TaskSetOk xs = All (λ x. SporadicOk (task x)) xs
 
-  -- the share of one
+  -- the share of one of a set
   abbrev pub sporadic_share : X → ℕ
   sporadic_share x = task_share (task x)
 
@@ -30,7 +30,7 @@ module _ {X : Type 0} (task : X → Task) where
   abbrev pub task_set_shares : List X → ℕ
   task_set_shares xs = sum_by sporadic_share xs
 
-  -- the demand of one in any t successive slots
+  -- the demand of one of a set in any t successive slots
   abbrev pub sporadic_demand : ℕ → X → ℕ
   sporadic_demand t x = task_demand t (task x)
 

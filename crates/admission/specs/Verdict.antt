@@ -126,15 +126,15 @@ pub record WellFormed (p : Plan) (registers : ℕ) : Type 0 where
   pub fixed : FixedsOk p.fixed registers
   pub operations : OperationsOk p.guests p.tasks p.operations
 
--- it is schedulable: rules 7 to 10 hold. Link and guests have the spare, and demand is at most supply in any number of
--- slots
+-- a plan is schedulable: rules 7 to 10 hold. Link and guests have the spare, and demand is at most supply in any number
+-- of slots
 pub record Schedulable (p : Plan) : Type 0 where
   pub link_spare : LinkHasSpare p.table p.guests
   pub link : LinkServed p.table p.guests
   pub guest_spares : GuestsHaveSpare p.guests p.tasks
   pub guests : GuestsServed p.guests p.tasks
 
--- it is accepted: it is well-formed and schedulable
+-- a plan is accepted: it is well-formed and schedulable
 pub record Accepted (p : Plan) (registers : ℕ) : Type 0 where
   pub form : WellFormed p registers
   pub schedulable : Schedulable p

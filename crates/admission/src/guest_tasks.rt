@@ -19,7 +19,7 @@ pub(crate) struct GuestTasks<'a> {
 
 impl<'a> GuestTasks<'a> {
     // The place of the first task of guest i.
-    #[tactic(auto, using(setups::proofs::Parts::starts), unfolding(setups::specs::Plan::task_start))]
+    #[tactic(auto, using(setups::proofs::GuestPlaces::starts), unfolding(setups::specs::Plan::task_start))]
     fn task_start(&self, i: usize) -> usize
         requires { i ≤ length self.now.guests.now }
         ensures value { result ≡ task_start self.now.guests.now i }
@@ -38,7 +38,7 @@ impl<'a> GuestTasks<'a> {
     }
 
     // The place of the first operation of guest i.
-    #[tactic(auto, using(setups::proofs::Parts::starts), unfolding(setups::specs::Plan::operation_start))]
+    #[tactic(auto, using(setups::proofs::GuestPlaces::starts), unfolding(setups::specs::Plan::operation_start))]
     pub(crate) fn operation_start(&self, i: usize) -> usize
         requires guest { i ≤ length self.now.guests.now }
         requires costs { sum_by cost_of self.now.tasks.now ≤ usize.MAX }

@@ -5,8 +5,8 @@ ghost use Rattle.std.specs.Prelude.{IfOk};
 ghost use Rattle.decline.specs.Refusals.{by_numbers};
 ghost use Rattle.setups.specs.Plan.{plan_of, ValuesFit};
 ghost use Rattle.admission.specs.Verdict.{IsVerdict};
-ghost use Rattle.admission.specs.Laws.{SupplyIsLeast, SupplyRepeats, LinkSearchBound, TasksSearchBound};
-ghost use Rattle.admission.specs.Laws.{TasksSearchBoundByPauses, OneVerdict};
+ghost use Rattle.admission.specs.AdmissionLaws.{SupplyIsLeast, SupplyRepeats, LinkSearchBound, TasksSearchBound};
+ghost use Rattle.admission.specs.AdmissionLaws.{TasksSearchBoundByPauses, OneVerdict};
 
 mod bounds;
 mod guest_tasks;

@@ -205,7 +205,7 @@ fn inside(g: Guest, o: Operation) -> bool
 }
 
 // Rule 6 of the guests' operations: each is inside the window of its guest.
-#[tactic(auto, using(setups::proofs::Parts::starts))]
+#[tactic(auto, using(setups::proofs::GuestPlaces::starts))]
 pub(crate) fn check_operations(
     guest_tasks: &GuestTasks<'_>,
     operations: &[Operation],

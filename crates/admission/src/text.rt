@@ -8,6 +8,7 @@ use std::fmt;
 /// What `judge` answered, as text: `accepted`, or the refusal and its sentence.
 #[derive(Clone, Copy, PartialEq, Eq, Debug, Drop)]
 pub struct Verdict {
+    /// Accepted, or why not.
     pub answer: Result<(), Decline>,
 }
 

@@ -81,7 +81,7 @@ impl<'a> Workload<'a> {
 
     // The least number of slots in which the tasks need more than their server gives. The search stops at 100 times two
     // budgets and the costs.
-    #[tactic(auto, using(setups::proofs::Parts::costs_bounded))]
+    #[tactic(auto, using(setups::proofs::GuestPlaces::costs_bounded))]
     pub(crate) fn first_short(&self) -> Option<u32>
         requires { TasksHaveSpare self.now.server.period self.now.server.budget self.now.tasks.now }
         ensures { MatchOption result

@@ -2,7 +2,7 @@
 use crate::verdicts::*;
 use admission::{Guest, Task, judge};
 use decline::Decline;
-use samples::{REGISTERS, guest, setup_a_budget_4, task};
+use samples::{PANEL_REGISTERS, guest, setup_a_budget_4, task};
 
 #[test]
 fn the_spare_of_the_link_may_be_exactly_a_hundredth(rt: HostRuntime) {
@@ -34,7 +34,7 @@ fn a_table_without_a_free_byte_has_no_spare(rt: HostRuntime) {
 #[test]
 fn a_larger_budget_takes_the_spare_of_the_link(rt: HostRuntime) {
     assert_eq!(rt;
-        judge(&setup_a_budget_4(), REGISTERS),
+        judge(&setup_a_budget_4(), PANEL_REGISTERS),
         Err(Decline::LinkSpare)
     );
 }

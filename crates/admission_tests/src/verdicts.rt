@@ -3,7 +3,7 @@ ghost use Rattle.std.specs.Prelude.{◌≤◌};
 
 use admission::{Guest, Operation, Setup, Task, judge};
 use decline::{Decline, Part};
-use samples::{FIXED, REGISTERS, WRITE_0, guest};
+use samples::{FIXED, PANEL_REGISTERS, WRITE_0, guest};
 use std::array;
 
 // One guest with registers 0 to 7 and no task.
@@ -68,7 +68,7 @@ pub(crate) fn verdict<'a>(
         operations,
         ..LONE_SETUP
     };
-    judge(&setup, REGISTERS)
+    judge(&setup, PANEL_REGISTERS)
 }
 
 // The verdict on one guest of budget 1 in period 50 that has registers 0 to 7 and no task.

@@ -7,7 +7,8 @@ use Rattle.setups.specs.declared.setup.Guest.{Guest}
 use Rattle.setups.specs.Plan.{Plan, guest_at}
 use Rattle.schedule.specs.declared.turn.Turn.{Turn}
 use Rattle.schedule.specs.declared.turn.Turn.TheVariants.{Unassigned, Fixed, Granted}
-use Rattle.schedule.specs.Slot.{byte_at}
+use Rattle.schedule.specs.ServerSlot.{byte_at}
+use Rattle.admit.specs.declared.drawing.TheConstants.{LINE_SLOTS}
 
 -- the mark of a table byte: a dot where it is free, A to Z and then a to f of fixed operations 1 to 32,
 -- and a question mark past them
@@ -67,13 +68,13 @@ block_text table gs turns a n =
 -- the lines of block b of a drawing, of the 80 slots from 80 b on or, at the end, of those that are left
 abbrev pub block_at : List ℕ → List Guest → List Turn → ℕ → List ℕ
 block_at table gs turns b =
-    let a = b * 80 in
-    let end = min (a + 80) (length turns) in
+    let a = b * LINE_SLOTS in
+    let end = min (a + LINE_SLOTS) (length turns) in
     block_text table gs (slice_range turns a end) a (end - a)
 
 -- the lines of all blocks of some turns, which are those from slot 0 on
 abbrev pub drawing_text : List ℕ → List Guest → List Turn → List ℕ
-drawing_text table gs turns = flat_map (block_at table gs turns) (range_with_len 0 (div_ceil (length turns) 80))
+drawing_text table gs turns = flat_map (block_at table gs turns) (range_with_len 0 (div_ceil (length turns) LINE_SLOTS))
 
 -- how many slots a drawing covers: as many as the slot table, or as the longest period of a guest if that is longer
 abbrev pub covered_slots : Plan → ℕ

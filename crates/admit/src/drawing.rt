@@ -1,5 +1,6 @@
 //! The drawing of a timetable: lines of marks, one for each slot.
 ghost use Rattle.std.specs.Prelude.{◌≡◌, ◌+◌, ◌-◌, ◌<◌, ◌≤◌, length, slice_index_or, Some};
+ghost use Rattle.admit.specs.declared.drawing.TheConstants.{DRAWING_SLOTS};
 ghost use Rattle.admit.specs.Drawing.{byte_mark, guest_mark, turn_mark, period_mark, table_row, turn_row};
 ghost use Rattle.admit.specs.Drawing.{period_row, guest_lines, block_text, drawing_text, covered_slots};
 ghost use Rattle.setups.specs.Plan.{plan_of};
@@ -196,7 +197,7 @@ struct Drawing<'a> {
     guests: &'a [Guest],
     turns: &'a [Turn],
     ghost some: { 0 < length table.now },
-    ghost short: { length turns.now ≤ 1024 },
+    ghost short: { length turns.now ≤ DRAWING_SLOTS },
 }
 
 impl fmt::Display for Drawing<'_> {

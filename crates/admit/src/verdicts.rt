@@ -5,7 +5,7 @@ use crate::without_tasks::{
 };
 use admission::{Setup, Verdict, VerdictLine, judge};
 use samples::{
-    REGISTERS, period_100, period_101, read, setup_a, setup_a_budget_4, setup_a_due_7,
+    PANEL_REGISTERS, period_100, period_101, read, setup_a, setup_a_budget_4, setup_a_due_7,
     setup_a_due_8, two_fixed,
 };
 use std::io::{self, Write};
@@ -17,11 +17,11 @@ const MARKS: &str =
 // Prints what is judged, the verdict on it, and its drawing if it is accepted.
 fn print_verdict<W: Write>(what: &str, setup: &Setup<'_>, out: &mut W) -> io::Result<()> {
     let verdict = Verdict {
-        answer: judge(setup, REGISTERS),
+        answer: judge(setup, PANEL_REGISTERS),
     };
     let line = VerdictLine { what, verdict };
     writeln!(out, "{line}")?;
-    print_drawing(setup, REGISTERS, out)
+    print_drawing(setup, PANEL_REGISTERS, out)
 }
 
 // Prints the verdicts on setup A and on variants of it.

@@ -6,7 +6,7 @@ use Rattle.setups.specs.Plan.{task_at, no_task}
 use Rattle.setups.specs.Demand.{task_demand, tasks_demand, TasksServed}
 use Rattle.deadlines.specs.Sums.{sum_below}
 use Rattle.deadlines.specs.Course.{Course, Brings, no_more, release, EarliestFirst}
-use Rattle.deadlines.specs.Laws.{DueWorkIsDone}
+use Rattle.deadlines.specs.DeadlineLaw.{DueWorkIsDone}
 use Rattle.deadlines.proofs.Sums.{sum_below_next, sum_below_le, sum_below_add, sum_below_none}
 use Rattle.deadlines.proofs.Sums.{sum_below_swap, sum_below_term, sum_below_list}
 use Rattle.deadlines.proofs.BusyPeriod.{carried}
@@ -36,11 +36,11 @@ demand_from n task d time = sum_below (λ k. task_demand (d - time) (task k)) n
 module _ (n : ℕ) (task : ℕ → Task) (c : Course) (apart : (k : ℕ) → k < n → 0 < (task k).separation)
     (e : EarliestFirst n task c) where
   -- what a step adds to the releases of a stream
-  abbrev Added : ℕ → ℕ → ℕ → Type 0
-  Added d i k = Adds (task k) d (releases c d k i) (releases c d k (suc i))
+  abbrev AddsAt : ℕ → ℕ → ℕ → Type 0
+  AddsAt d i k = Adds (task k) d (releases c d k i) (releases c d k (suc i))
 
   -- what a step brings adds nothing to the work due by d, or a release
-  brings_adds : (d i k : ℕ) → k < n → Added d i k
+  brings_adds : (d i k : ℕ) → k < n → AddsAt d i k
   unfolding released_due
   brings_adds d i k l = go (e.brings i k l)
     where
@@ -51,10 +51,10 @@ module _ (n : ℕ) (task : ℕ → Task) (c : Course) (apart : (k : ℕ) → k <
       kept = serves_allowed n (c.slots i) (c.ready i) (c.before (suc i)) (e.serves i) k l
 
       none_more : due_by d (c.ready i k) ≤ due_by d (c.before i k) → (c.before i k).allowed ≤ (c.ready i k).allowed
-          → Added d i k
+          → AddsAt d i k
       none_more none later = nothing (omega (arith, next, none)) (omega (arith, kept, later))
 
-      go : Brings (task k) (c.time i) (c.before i k) (c.ready i k) → Added d i k
+      go : Brings (task k) (c.time i) (c.before i k) (c.ready i k) → AddsAt d i k
       go (no_more less same later) =
           elim (dec_lt d (c.before i k).deadline) [
             | yes p ↦ none_more (omega (arith, due_no d (c.ready i k) (omega (arith, same, p)))) later

@@ -4,5 +4,5 @@ pub mod Service
 pub mod OneAtATime
 pub mod Spacing
 pub mod Lateness
-pub mod Supply
+pub mod Ledgers
 pub mod Servers

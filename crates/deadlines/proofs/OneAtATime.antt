@@ -4,7 +4,7 @@ use Rattle.std.proofs.Common.{◌≡◌, refl, sym, ap, ◌∙◌, ℕ, ◌+◌,
 use Rattle.std.proofs.Common.{IsTrue, ⊎_elim, List, length, slice_set, slice_index_or, Option, Some, None}
 use native.Mathlib.Decide.{dec_lt, ℕ_discrete as dec_eq}
 use Rattle.std.proofs.lemmas.Bool.{cases_Bool, true≢false, eq-eqb, ne_eqb}
-use Rattle.std.proofs.lemmas.List.{length-set, get_or-set_other, get_or-set_same}
+use Rattle.std.proofs.lemmas.List.{get_or-set_other, get_or-set_same}
 use Rattle.deadlines.specs.Course.{StreamState, with_unit, Serves, no_work, serves}
 
 -- records of some type can be served: each is a stream of work, and waits while it has some
@@ -100,11 +100,6 @@ module _ {R : Type 0} (s : Servable R) where
     -- every other is as it was
     elsewhere : (k : ℕ) → (k ≡ p → ⊥) → at ys k ≡ at xs k
     elsewhere k apart = ap (λ zs. at zs k) by.changed ∙ get_or-set_other xs p k (s.serve (at xs p)) s.past_end apart
-
-  -- there are as many records
-  pub length_served : (xs : List R) (r : Option ℕ) (ys : List R) → ServedBy xs r ys → length ys ≡ length xs
-  length_served xs None ys (same, none) = ap length same
-  length_served xs (Some p) ys by = ap length by.changed ∙ length-set xs p (s.serve (at xs p))
 
   -- a record with work waits
   waits_for_work : (x : R) → 0 < (s.stream x).work → IsTrue (s.waits x)

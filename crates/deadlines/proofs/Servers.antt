@@ -17,40 +17,40 @@ use Rattle.deadlines.specs.Course.{StreamState, Course, Brings, no_more, release
 use Rattle.deadlines.proofs.Sums.{sum_below_zero, sum_below_next, sum_below_rises, sum_below_list}
 use Rattle.deadlines.proofs.Service.{serves_deadline, serves_allowed, serves_work}
 use Rattle.deadlines.proofs.Lateness.{in_time}
-use Rattle.deadlines.proofs.Supply.{Ledger, Balanced, supplied_between}
+use Rattle.deadlines.proofs.Ledgers.{Ledger, LedgerInvariant, supplied_between}
 
 -- a server before its first period: it has nothing, and a period starts at slot 0
-abbrev pub unfilled : StreamState
-unfilled = record { work = 0; deadline = 0; allowed = 0 }
+abbrev pub empty_server : StreamState
+empty_server = record { work = 0; deadline = 0; allowed = 0 }
 
 -- a server of which a period starts at slot s: it has its whole budget, up to the next boundary
-abbrev pub filled : Guest → ℕ → StreamState
-filled g s = record { work = g.budget; deadline = s + g.period; allowed = s + g.period }
+abbrev pub full_server : Guest → ℕ → StreamState
+full_server g s = record { work = g.budget; deadline = s + g.period; allowed = s + g.period }
 
 -- a server in slot s, by what it was before: filled where a period starts, else as it was
-abbrev pub refilled : Guest → ℕ → StreamState → StreamState
-refilled g s x = cond (s % g.period == 0) (filled g s) x
+abbrev pub in_slot : Guest → ℕ → StreamState → StreamState
+in_slot g s x = cond (s % g.period == 0) (full_server g s) x
 
 -- servers begin with nothing, are refilled, and are served by the free slots of a table, the nearest boundary first
 pub record ServeGuests (table : List ℕ) (gs : List Guest) (before ready : ℕ → ℕ → StreamState) : Type 0 where
-  pub start : (i : ℕ) → i < length gs → before 0 i ≡ unfilled
-  pub refill : (s i : ℕ) → i < length gs → ready s i ≡ refilled (guest_at gs i) s (before s i)
+  pub start : (i : ℕ) → i < length gs → before 0 i ≡ empty_server
+  pub refill : (s i : ℕ) → i < length gs → ready s i ≡ in_slot (guest_at gs i) s (before s i)
   pub serve : (s : ℕ) → Serves (length gs) (slot_free table s) (ready s) (before (suc s))
 
 -- what guest i is granted in slot s
-abbrev pub granted : (ℕ → ℕ → StreamState) → (ℕ → ℕ → StreamState) → ℕ → ℕ → ℕ
-granted before ready i s = (ready s i).work - (before (suc s) i).work
+abbrev pub granted_in : (ℕ → ℕ → StreamState) → (ℕ → ℕ → StreamState) → ℕ → ℕ → ℕ
+granted_in before ready i s = (ready s i).work - (before (suc s) i).work
 
 -- the boundary of a server is the next multiple of its period, from s on, and its next budget comes there
-pub record Aligned (period s : ℕ) (x : StreamState) : Type 0 where
+pub record NextBoundary (period s : ℕ) (x : StreamState) : Type 0 where
   pub multiple : (q : ℕ) × (x.deadline ≡ q * period)
   pub ahead : s ≤ x.deadline
   pub near : x.deadline < s + period
   pub allowed : x.allowed ≡ x.deadline
 
 -- at the start of a period the boundary is that slot
-aligned_start : (period s : ℕ) (x : StreamState) → s % period ≡ 0 → Aligned period s x → x.deadline ≡ s
-aligned_start period s x z a =
+boundary_at_start : (period s : ℕ) (x : StreamState) → s % period ≡ 0 → NextBoundary period s x → x.deadline ≡ s
+boundary_at_start period s x z a =
     let q = a.multiple.0 in
     let e : x.deadline ≡ q * period = a.multiple.1 in
     let m : s / period * period ≡ s = omega (arith, mod-add-div' s period) in
@@ -60,17 +60,17 @@ aligned_start period s x z a =
     ]
 
 -- where a period starts a server is filled
-refill_yes : (g : Guest) (s : ℕ) (x : StreamState) → s % g.period ≡ 0 → refilled g s x ≡ filled g s
+refill_yes : (g : Guest) (s : ℕ) (x : StreamState) → s % g.period ≡ 0 → in_slot g s x ≡ full_server g s
 refill_yes g s x z = rw (eq-eqb (s % g.period) 0 z) refl
 
 -- and else it is as it was
-refill_no : (g : Guest) (s : ℕ) (x : StreamState) → (s % g.period ≡ 0 → ⊥) → refilled g s x ≡ x
+refill_no : (g : Guest) (s : ℕ) (x : StreamState) → (s % g.period ≡ 0 → ⊥) → in_slot g s x ≡ x
 refill_no g s x n = rw (ne_eqb (s % g.period) 0 n) refl
 
 -- after slot s the boundary is the next multiple of the period from the next slot on
-aligned_next : (g : Guest) (s : ℕ) (x : StreamState) → 0 < g.period → Aligned g.period s x
-    → Aligned g.period (suc s) (refilled g s x)
-aligned_next g s x pos a =
+boundary_next : (g : Guest) (s : ℕ) (x : StreamState) → 0 < g.period → NextBoundary g.period s x
+    → NextBoundary g.period (suc s) (in_slot g s x)
+boundary_next g s x pos a =
     let m = mod-add-div' s g.period in
     elim (dec_eq (s % g.period) 0) [
       | yes z ↦
@@ -89,9 +89,9 @@ aligned_next g s x pos a =
     ]
 
 -- so it is for a server that is due and may be refilled when that is
-aligned_same : (period s : ℕ) (x y : StreamState) → y.deadline ≡ x.deadline → y.allowed ≡ x.allowed → Aligned period s x
-    → Aligned period s y
-aligned_same period s x y due again a = record {
+boundary_same : (period s : ℕ) (x y : StreamState) → y.deadline ≡ x.deadline → y.allowed ≡ x.allowed
+    → NextBoundary period s x → NextBoundary period s y
+boundary_same period s x y due again a = record {
   multiple = (a.multiple.0, due ∙ a.multiple.1);
   ahead = omega (arith, a.ahead, due);
   near = omega (arith, a.near, due);
@@ -128,23 +128,23 @@ module _ (table : List ℕ) (gs : List Guest) (before ready : ℕ → ℕ → St
   some_period i h = let o : ServerOk (guest_at gs i) = ok i no_guest h in omega arith
 
   -- the boundary of a guest is the next multiple of its period, from s on
-  pub aligned : (s i : ℕ) → i < length gs → Aligned (period i) s (before s i)
-  aligned zero i h =
+  pub next_boundary : (s i : ℕ) → i < length gs → NextBoundary (period i) s (before s i)
+  next_boundary zero i h =
       let p = some_period i h in
       rw (course.start i h)
       (record { multiple = (0, omega arith); ahead = omega arith; near = omega (arith, p); allowed = refl })
-  aligned (suc s) i h =
+  next_boundary (suc s) i h =
       let by = course.serve s in
       let n = length gs in
       let free = slot_free table s in
-      aligned_same (period i) (suc s) (refilled (guest_at gs i) s (before s i)) (before (suc s) i)
+      boundary_same (period i) (suc s) (in_slot (guest_at gs i) s (before s i)) (before (suc s) i)
       (serves_deadline n free (ready s) (before (suc s)) by i h ∙ ap (λ x. x.deadline) (course.refill s i h))
       (serves_allowed n free (ready s) (before (suc s)) by i h ∙ ap (λ x. x.allowed) (course.refill s i h))
-      (aligned_next (guest_at gs i) s (before s i) (some_period i h) (aligned s i h))
+      (boundary_next (guest_at gs i) s (before s i) (some_period i h) (next_boundary s i h))
 
   -- at the start of a period the boundary of a guest is that slot
   boundary_start : (s i : ℕ) → i < length gs → s % period i ≡ 0 → (before s i).deadline ≡ s
-  boundary_start s i h z = aligned_start (period i) s (before s i) z (aligned s i h)
+  boundary_start s i h z = boundary_at_start (period i) s (before s i) z (next_boundary s i h)
 
   -- what a slot brings a server is what a step brings a stream
   brought : (s i : ℕ) → i < length gs → Brings (server_task (guest_at gs i)) s (before s i) (ready s i)
@@ -152,7 +152,8 @@ module _ (table : List ℕ) (gs : List Guest) (before ready : ℕ → ℕ → St
       elim (dec_eq (s % period i) 0) [
         | yes z ↦
             rw (course.refill s i h, refill_yes (guest_at gs i) s (before s i) z)
-            (release (omega (arith, (aligned s i h).allowed, boundary_start s i h z)) (omega arith) refl (omega arith))
+            (release (omega (arith, (next_boundary s i h).allowed, boundary_start s i h z)) (omega arith) refl
+            (omega arith))
         | no z ↦
             rw (course.refill s i h, refill_no (guest_at gs i) s (before s i) z)
             (no_more (omega arith) refl (omega arith))
@@ -184,7 +185,7 @@ module _ (table : List ℕ) (gs : List Guest) (before ready : ℕ → ℕ → St
       → (before s i).work ≤ window_free table s ((before s i).deadline - s)
   left_within_free s i h =
       let d = (before s i).deadline in
-      let ahead : s ≤ d = (aligned s i h).ahead in
+      let ahead : s ≤ d = (next_boundary s i h).ahead in
       in_time (length gs) (λ k. server_task (guest_at gs k)) servers (λ k l. some_period k l) earliest_first
       s d (window_free table s (d - s))
       (λ a le.
@@ -200,18 +201,18 @@ module _ (table : List ℕ) (gs : List Guest) (before ready : ℕ → ℕ → St
 
   -- what guest i was granted before slot s
   abbrev granted_before : ℕ → ℕ → ℕ
-  granted_before i s = sum_below (granted before ready i) s
+  granted_before i s = sum_below (granted_in before ready i) s
 
   -- the ledger of guest i before slot s, when q of its periods have begun
   abbrev ledger : ℕ → ℕ → ℕ → Ledger
   ledger s i q = record { slot = s; periods = q; left = (before s i).work; granted = granted_before i s }
 
-  -- it is balanced, and the boundary is the end of the periods begun
-  balanced : (s i : ℕ) → i < length gs
-      → (q : ℕ) × ((before s i).deadline ≡ q * period i) × Balanced (period i) (budget i) (ledger s i q)
-  balanced zero i h =
+  -- its ledger keeps its invariant, and the boundary is the end of the periods begun
+  ledger_invariant : (s i : ℕ) → i < length gs
+      → (q : ℕ) × ((before s i).deadline ≡ q * period i) × LedgerInvariant (period i) (budget i) (ledger s i q)
+  ledger_invariant zero i h =
       let o : ServerOk (guest_at gs i) = ok i no_guest h in
-      let none = sum_below_zero (granted before ready i) in
+      let none = sum_below_zero (granted_in before ready i) in
       let left = ap (λ x. x.work) (course.start i h) in
       let due = ap (λ x. x.deadline) (course.start i h) in (
         0,
@@ -224,16 +225,16 @@ module _ (table : List ℕ) (gs : List Guest) (before ready : ℕ → ℕ → St
           slow = omega arith;
         },
       )
-  balanced (suc s) i h =
+  ledger_invariant (suc s) i h =
       let g = guest_at gs i in
-      let l = balanced s i h in
+      let l = ledger_invariant s i h in
       let o : ServerOk g = ok i no_guest h in
       let free = slot_free table s in
       let less = serves_work (length gs) free (ready s) (before (suc s)) (course.serve s) i h in
       let due = serves_deadline (length gs) free (ready s) (before (suc s)) (course.serve s) i h in
       let one = slot_le table s in
-      let more = sum_below_next (granted before ready i) s in
-      let a = aligned (suc s) i h in
+      let more = sum_below_next (granted_in before ready i) s in
+      let a = next_boundary (suc s) i h in
       elim (dec_eq (s % period i) 0) [
         | yes z ↦
             (let is = course.refill s i h ∙ refill_yes g s (before s i) z in
@@ -273,7 +274,7 @@ module _ (table : List ℕ) (gs : List Guest) (before ready : ℕ → ℕ → St
       let o : ServerOk (guest_at gs i) = ok i no_guest h in
       let s = q * period i in
       let z : s % period i ≡ 0 = mul-mod_left q (period i) in
-      let l = balanced s i h in
+      let l = ledger_invariant s i h in
       let same : l.0 ≡ q = eq_of_mul-eq-mul_right (period i) (omega arith) l.0 q (sym l.1 ∙ boundary_start s i h z) in
       omega (arith, l.2.paid, none_left s i h z, ap (λ n. n * budget i) same)
 
@@ -282,9 +283,9 @@ module _ (table : List ℕ) (gs : List Guest) (before ready : ℕ → ℕ → St
       → granted_before i a + server_supply (period i) (budget i) (b - a) ≤ granted_before i b
   supplied i a b h le =
       let o : ServerOk (guest_at gs i) = ok i no_guest h in
-      let la = balanced a i h in
-      let lb = balanced b i h in
+      let la = ledger_invariant a i h in
+      let lb = ledger_invariant b i h in
       let free = window_le table b ((before b i).deadline - b) in
       supplied_between (period i) (budget i) o.within (ledger a i la.0) (ledger b i lb.0) la.2 lb.2
-      (omega (arith, lb.1, left_within_free b i h, free, (aligned b i h).ahead)) (omega arith) le
-      (sum_below_rises (granted before ready i) a b le)
+      (omega (arith, lb.1, left_within_free b i h, free, (next_boundary b i h).ahead)) (omega arith) le
+      (sum_below_rises (granted_in before ready i) a b le)

@@ -25,7 +25,7 @@ pub data Adds (k : Task) (d : ℕ) (m n : Releases) : Type 0 where
       → Adds k d m n
 
 -- how many releases of a stream come from one moment to a later one
-record Counted (k : Task) (d : ℕ) (m n : Releases) : Type 0 where
+record ReleaseCount (k : Task) (d : ℕ) (m n : Releases) : Type 0 where
   -- so many
   count : ℕ
   -- if there are any, the next is allowed that many separations after the first moment or later, and a release one
@@ -39,19 +39,19 @@ record Counted (k : Task) (d : ℕ) (m n : Releases) : Type 0 where
   since : m.time ≤ n.time
 
 -- from a moment to itself there are none
-counted_none : (k : Task) (d : ℕ) (m : Releases) → Counted k d m m
-counted_none k d m = record { count = 0; spaced = inl refl; within = omega arith; since = omega arith }
+count_none : (k : Task) (d : ℕ) (m : Releases) → ReleaseCount k d m m
+count_none k d m = record { count = 0; spaced = inl refl; within = omega arith; since = omega arith }
 
 -- a step more may add a release to them
-counted_more : (k : Task) (d : ℕ) (l m n : Releases) → m.time ≤ n.time → Adds k d m n → Counted k d l m
-    → Counted k d l n
-counted_more k d l m n onward (nothing none later) s = record {
+count_more : (k : Task) (d : ℕ) (l m n : Releases) → m.time ≤ n.time → Adds k d m n → ReleaseCount k d l m
+    → ReleaseCount k d l n
+count_more k d l m n onward (nothing none later) s = record {
   count = s.count;
   spaced = elim s.spaced [ inl e ↦ inl e | inr p ↦ inr (omega (arith, p.0), omega (arith, p.1)) ];
   within = omega (arith, s.within);
   since = omega (arith, s.since);
 }
-counted_more k d l m n onward (something few at next due) s = record {
+count_more k d l m n onward (something few at next due) s = record {
   count = suc s.count;
   spaced =
       elim s.spaced [
@@ -81,18 +81,18 @@ within_demand k d a (suc m) pos (inr p) =
 module _ (k : Task) (d a : ℕ) (at : ℕ → Releases) (onward : (i : ℕ) → (at i).time ≤ (at (suc i)).time)
     (adds : (i : ℕ) → Adds k d (at i) (at (suc i))) where
   -- the releases from step a to step i, counted
-  counted : (i : ℕ) → a ≤ i → Counted k d (at a) (at i)
-  counted zero h = let e : a ≡ 0 = omega arith in rw e (counted_none k d (at 0))
-  counted (suc i) h =
+  count_to : (i : ℕ) → a ≤ i → ReleaseCount k d (at a) (at i)
+  count_to zero h = let e : a ≡ 0 = omega arith in rw e (count_none k d (at 0))
+  count_to (suc i) h =
       elim (dec_lt i a) [
-        | yes p ↦ let e : a ≡ suc i = omega arith in rw e (counted_none k d (at (suc i)))
-        | no p ↦ counted_more k d (at a) (at i) (at (suc i)) (onward i) (adds i) (counted i (omega (arith, p)))
+        | yes p ↦ let e : a ≡ suc i = omega arith in rw e (count_none k d (at (suc i)))
+        | no p ↦ count_more k d (at a) (at i) (at (suc i)) (onward i) (adds i) (count_to i (omega (arith, p)))
       ]
 
   -- what they add that is due by d is within the demand for d less the time of step a
   pub spaced_demand : 0 < k.separation → (i : ℕ) → a ≤ i → (at i).due ≤ (at a).due + task_demand (d - (at a).time) k
   spaced_demand pos i h =
-      let s : Counted k d (at a) (at i) = counted i h in
+      let s : ReleaseCount k d (at a) (at i) = count_to i h in
       omega (
         arith,
         s.within,

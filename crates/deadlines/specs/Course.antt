@@ -26,7 +26,7 @@ pub record Course : Type 0 where
 
 -- what a step brings to a stream of this task when so many slots have passed: no new work, or a release
 pub data Brings (k : Task) (time : ℕ) (before ready : StreamState) : Type 0 where
-  -- the work that was left, or less
+  -- the work that was left, or less; its deadline stays, and the next may not come earlier
   no_more : ready.work ≤ before.work → ready.deadline ≡ before.deadline → before.allowed ≤ ready.allowed
       → Brings k time before ready
   -- when it may come, new work of at most the task's cost in the place of what was left, due the task's deadline from
@@ -49,7 +49,8 @@ pub data Serves (n slots : ℕ) (ready after : ℕ → StreamState) : Type 0 whe
       → ((k : ℕ) → k < n → (k ≡ i → ⊥) → after k ≡ ready k)
       → ((k : ℕ) → k < n → 0 < (ready k).work → (ready i).deadline ≤ (ready k).deadline) → Serves n slots ready after
 
--- n streams of these tasks begin without work, release as they may, and are served the earliest deadline first
+-- n streams of these tasks begin without work, release as they may, and are served the earliest deadline first, while
+-- time does not go back
 pub record EarliestFirst (n : ℕ) (task : ℕ → Task) (c : Course) : Type 0 where
   pub start : (k : ℕ) → k < n → (c.before 0 k).work ≡ 0
   pub onward : (i : ℕ) → c.time i ≤ c.time (suc i)

@@ -1,3 +1,3 @@
 pub mod Course
-pub mod Laws
+pub mod DeadlineLaw
 pub mod Sums

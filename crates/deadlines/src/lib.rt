@@ -2,7 +2,7 @@
 #![tactic(auto)]
 
 ghost use Rattle.std.specs.Prelude.{◌≡◌, ◌+◌};
-ghost use Rattle.deadlines.specs.Laws.{DueWorkIsDone};
+ghost use Rattle.deadlines.specs.DeadlineLaw.{DueWorkIsDone};
 
 use setups::Task;
 

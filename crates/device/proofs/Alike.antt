@@ -1,13 +1,22 @@
--- Devices that are alike within a window answer alike, and stay alike.
-use Rattle.std.proofs.Common.{◌≡◌, refl, sym, ap, ◌∙◌, subst, ℕ, ◌<◌, ◌≤◌, Bool, true, false, cond, nat_lt, ◌&&◌, arith}
+-- Devices that are alike, of all registers or within a window, answer alike, and stay alike.
+use Rattle.std.proofs.Common.{◌≡◌, refl, sym, ap, ◌∙◌, subst, ℕ, ◌+◌, ◌<◌, ◌≤◌, Bool, true, false, cond, nat_lt}
+use Rattle.std.proofs.Common.{◌&&◌, arith}
 use Rattle.std.proofs.Common.{length, slice_get, ok_or, Ok, Err}
 use native.Mathlib.Decide.{dec_lt}
 use Rattle.std.proofs.lemmas.Bool.{le-ltb}
 use Rattle.std.proofs.lemmas.List.{length-set}
+use Rattle.device.specs.declared.limits.TheConstants.{VALUES}
 use Rattle.device.specs.Meaning.{Nature, Meaning, refused, register_count, is_accepted, contents_after}
 use Rattle.device.specs.Meaning.{write_answer, after_write, read_answer}
-use Rattle.device.specs.Alike.{SameNature, Alike, AlikeWithin}
-use Rattle.device.proofs.Lists.{changed, slice_get-set_other, slice_get-set_alike}
+use Rattle.device.specs.Alike.{SameNature, Alike}
+use Rattle.device.proofs.Lists.{set_if, slice_get-set_other, slice_get-set_alike}
+
+-- two devices are alike within a window: they have the same register count and the same nature for it, and each
+-- register from the first to before the end has the same content in both
+pub record AlikeWithin (first end : ℕ) (m n : Meaning) : Type 0 where
+  pub size : register_count m ≡ register_count n
+  pub nature : SameNature (register_count m) m.nature n.nature
+  pub contents : (r : ℕ) → first ≤ r → r < end → slice_get m.contents r ≡ slice_get n.contents r
 
 -- a nature is the same as itself
 nature_refl : (count : ℕ) (a : Nature) → SameNature count a a
@@ -21,6 +30,26 @@ nature_sym count a b same = record { accepts = λ r v l k. sym (same.accepts r v
 nature_trans : (count : ℕ) (a b c : Nature) → SameNature count a b → SameNature count b c → SameNature count a c
 nature_trans count a b c first second = record { accepts = λ r v l k. first.accepts r v l k ∙ second.accepts r v l k }
 
+-- a device is alike to itself
+pub alike_refl : (m : Meaning) → Alike m m
+alike_refl m = record { contents = refl; nature = nature_refl (register_count m) m.nature }
+
+-- devices that are alike are so in the other order
+pub alike_sym : (m n : Meaning) → Alike m n → Alike n m
+alike_sym m n alike = record {
+  contents = sym alike.contents;
+  nature = subst (λ c. SameNature c n.nature m.nature) (ap length alike.contents)
+      (nature_sym _ m.nature n.nature alike.nature);
+}
+
+-- the first and the last of three devices are alike, if the first two and the last two are
+pub alike_trans : (l m n : Meaning) → Alike l m → Alike m n → Alike l n
+alike_trans l m n a b = record {
+  contents = a.contents ∙ b.contents;
+  nature = nature_trans _ l.nature m.nature n.nature a.nature
+      (subst (λ c. SameNature c m.nature n.nature) (sym (ap length a.contents)) b.nature);
+}
+
 -- devices that are alike are alike within every window
 pub alike_within : (first end : ℕ) (m n : Meaning) → Alike m n → AlikeWithin first end m n
 alike_within first end m n alike = record {
@@ -31,11 +60,7 @@ alike_within first end m n alike = record {
 
 -- a device is alike to itself within a window
 pub within_refl : (first end : ℕ) (m : Meaning) → AlikeWithin first end m m
-within_refl first end m = record {
-  size = refl;
-  nature = nature_refl (register_count m) m.nature;
-  contents = λ r h k. refl;
-}
+within_refl first end m = alike_within first end m m (alike_refl m)
 
 -- devices that are alike within a window are so in the other order
 pub within_sym : (first end : ℕ) (m n : Meaning) → AlikeWithin first end m n → AlikeWithin first end n m
@@ -59,7 +84,7 @@ within_trans first end l m n a b = record {
 pub count_after : (m : Meaning) (r v : ℕ) → register_count (after_write m r v) ≡ register_count m
 count_after m r v = go (is_accepted m r v)
   where
-    go : (t : Bool) → length (changed m.contents r v t) ≡ length m.contents
+    go : (t : Bool) → length (set_if m.contents r v t) ≡ length m.contents
     go true = length-set m.contents r v
     go false = refl
 
@@ -69,7 +94,7 @@ module _ (first end : ℕ) (m n : Meaning) (alike : AlikeWithin first end m n) w
   same_read r h k = ap (λ x. ok_or x refused) (alike.contents r h k)
 
   -- a write of a number of 16 bits
-  module _ (r v : ℕ) (fits : v < 65536) where
+  module _ (r v : ℕ) (fits : v < VALUES) where
     -- they accept it alike
     same_accepted : is_accepted m r v ≡ is_accepted n r v
     same_accepted =
@@ -92,7 +117,7 @@ module _ (first end : ℕ) (m n : Meaning) (alike : AlikeWithin first end m n) w
     same_contents q same = go (is_accepted m r v) (is_accepted n r v) same_accepted
       where
         go : (s t : Bool) → s ≡ t
-            → slice_get (changed m.contents r v s) q ≡ slice_get (changed n.contents r v t) q
+            → slice_get (set_if m.contents r v s) q ≡ slice_get (set_if n.contents r v t) q
         go true true e = slice_get-set_alike m.contents n.contents r v q alike.size same
         go true false e = absurd (cc)
         go false true e = absurd (cc)
@@ -106,6 +131,21 @@ module _ (first end : ℕ) (m n : Meaning) (alike : AlikeWithin first end m n) w
       contents = λ q h k. same_contents q (alike.contents q h k);
     }
 
+-- devices that are alike answer a read alike, answer a write of a number of 16 bits alike, and stay alike after it
+pub congruence : (m n : Meaning) → Alike m n → (r v : ℕ) → v < VALUES
+    → (read_answer m r ≡ read_answer n r) × (write_answer m r v ≡ write_answer n r v)
+    × Alike (after_write m r v) (after_write n r v)
+congruence m n alike r v fits =
+    let within = alike_within r (r + 1) m n alike in (
+      same_read r (r + 1) m n within r (omega arith) (omega arith),
+      same_write r (r + 1) m n within r v fits,
+      record {
+        contents = ap (set_if m.contents r v) (same_accepted r (r + 1) m n within r v fits)
+            ∙ ap (λ xs. set_if xs r v (is_accepted n r v)) alike.contents;
+        nature = subst (λ c. SameNature c m.nature n.nature) (sym (count_after m r v)) alike.nature;
+      },
+    )
+
 -- a write outside a window leaves a device alike within it to what it was
 pub write_outside : (first end : ℕ) (m : Meaning) (r v : ℕ) → (first ≤ r → r < end → ⊥)
     → AlikeWithin first end (after_write m r v) m
@@ -115,6 +155,6 @@ write_outside first end m r v outside = record {
   contents = λ q h k. go q (λ e. outside (omega (arith, e, h)) (omega (arith, e, k))) (is_accepted m r v);
 }
   where
-    go : (q : ℕ) → (q ≡ r → ⊥) → (t : Bool) → slice_get (changed m.contents r v t) q ≡ slice_get m.contents q
+    go : (q : ℕ) → (q ≡ r → ⊥) → (t : Bool) → slice_get (set_if m.contents r v t) q ≡ slice_get m.contents q
     go q other true = slice_get-set_other m.contents r v q other
     go q other false = refl

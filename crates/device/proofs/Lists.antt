@@ -3,8 +3,8 @@ use Rattle.std.proofs.Common.{◌≡◌, refl, ap, ◌∙◌, ℕ, suc, zero, �
 use Rattle.std.proofs.Common.{List, [], ◌∷◌, ◌++◌, length, take, slice_get, slice_set}
 
 -- a list of which a place is changed, or which stays
-abbrev pub changed : List ℕ → ℕ → ℕ → Bool → List ℕ
-changed xs i v t = cond t (slice_set xs i v) xs
+abbrev pub set_if : List ℕ → ℕ → ℕ → Bool → List ℕ
+set_if xs i v t = cond t (slice_set xs i v) xs
 
 -- a place below a cut is read as before
 pub slice_get-take : (n : ℕ) (xs : List ℕ) (i : ℕ) → i < n → slice_get (take n xs) i ≡ slice_get xs i

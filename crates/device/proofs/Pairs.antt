@@ -7,7 +7,7 @@ use Rattle.std.proofs.Math.Seq.{take-set-lt}
 use Rattle.device.specs.Meaning.{Meaning, refused, register_count, is_accepted, contents_after}
 use Rattle.device.specs.Meaning.{after_write, read_answer}
 use Rattle.device.specs.Pair.{pair_of}
-use Rattle.device.proofs.Lists.{changed, slice_get-take, slice_get-append_left, slice_get-append_right}
+use Rattle.device.proofs.Lists.{set_if, slice_get-take, slice_get-append_left, slice_get-append_right}
 use Rattle.device.proofs.Alike.{count_after}
 
 -- how many registers a pair has
@@ -36,9 +36,9 @@ module _ (a b : Meaning) (r : ℕ) (small : r < 256) where
 
     -- a write leaves the first one's contents written, before the second one's
     contents_first : (v : ℕ) → contents_after (pair_of a b) r v ≡ take 256 (contents_after a r v ++ b.contents)
-    contents_first v = ap (changed (pair_of a b).contents r v) (accepts_first v) ∙ go (is_accepted a r v)
+    contents_first v = ap (set_if (pair_of a b).contents r v) (accepts_first v) ∙ go (is_accepted a r v)
       where
-        go : (t : Bool) → changed (pair_of a b).contents r v t ≡ take 256 (changed a.contents r v t ++ b.contents)
+        go : (t : Bool) → set_if (pair_of a b).contents r v t ≡ take 256 (set_if a.contents r v t ++ b.contents)
         go true =
             sym (take-set-lt 256 (a.contents ++ b.contents) r v small)
             ∙ ap (take 256) (set-append_left a.contents b.contents r v inside)
@@ -69,10 +69,10 @@ module _ (a b : Meaning) (r : ℕ) (small : r < 256) where
     contents_second : (v : ℕ)
         → contents_after (pair_of a b) r v ≡ take 256 (a.contents ++ contents_after b (r - register_count a) v)
     contents_second v =
-        ap (changed (pair_of a b).contents r v) (accepts_second v) ∙ go (is_accepted b (r - register_count a) v)
+        ap (set_if (pair_of a b).contents r v) (accepts_second v) ∙ go (is_accepted b (r - register_count a) v)
       where
-        go : (t : Bool) → changed (pair_of a b).contents r v t
-            ≡ take 256 (a.contents ++ changed b.contents (r - register_count a) v t)
+        go : (t : Bool) → set_if (pair_of a b).contents r v t
+            ≡ take 256 (a.contents ++ set_if b.contents (r - register_count a) v t)
         go true =
             sym (take-set-lt 256 (a.contents ++ b.contents) r v small)
             ∙ ap (take 256) (set-append_right a.contents b.contents (register_count a) r v refl past)

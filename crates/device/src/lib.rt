@@ -8,11 +8,13 @@ ghost use Rattle.device.specs.Text.{refused_text};
 
 mod cap;
 mod lent;
+mod limits;
 mod pair;
 mod panel;
 mod wheel;
 
 pub use crate::cap::Cap;
+pub use crate::limits::{NAMED_REGISTERS, VALUES};
 pub use crate::pair::Pair;
 pub use crate::panel::LampPanel;
 pub use crate::wheel::FilterWheel;

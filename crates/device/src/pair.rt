@@ -2,10 +2,7 @@
 ghost use Rattle.std.specs.Prelude.{◌≡◌};
 ghost use Rattle.device.specs.Pair.{pair_of};
 
-use crate::{Device, Refused};
-
-/// How many registers a number of 8 bits can name.
-const MOST_REGISTERS: u32 = 256;
+use crate::{Device, NAMED_REGISTERS, Refused};
 
 /// Two devices as one: the registers of the first, then those of the second, as far as there are numbers for them.
 #[derive(Debug, Drop)]
@@ -46,7 +43,7 @@ impl<A: Device, B: Device> Device for Pair<A, B> {
             .first
             .register_count()
             .saturating_add(self.second.register_count());
-        both.min(MOST_REGISTERS)
+        both.min(NAMED_REGISTERS)
     }
 
     #[tactic(auto, using(crate::proofs::Pairs::writes))]

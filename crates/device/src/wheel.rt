@@ -1,11 +1,15 @@
 //! The filter wheel.
-ghost use Rattle.std.specs.Prelude.{◌≡◌, ◌≤◌, ◌%◌, ◌/◌, slice_get, Some};
+ghost use Rattle.std.specs.Prelude.{◌≡◌, ◌*◌, ◌≤◌, ◌%◌, ◌/◌, slice_get, Some};
+ghost use Rattle.device.specs.declared.wheel.TheConstants.{LAST_FILTER, STEPS};
 ghost use Rattle.device.specs.Wheel.{wheel, wheel_at_start};
 
 use crate::{Device, Refused};
 
 /// How many steps the motor turns from one filter to the next.
 const STEPS: u16 = 200;
+
+/// The last filter.
+const LAST_FILTER: u16 = 11;
 
 /// A wheel of 12 filters with a shutter. Register 0 is the filter, 0 to 11, which is held as the steps of the motor.
 /// Register 1 is the shutter, 0 or 1.
@@ -14,9 +18,9 @@ pub struct FilterWheel {
     steps: u16,
     shutter: u16,
     // The motor stands at a filter, and not between two.
-    ghost whole: { steps % 200 ≡ 0 },
+    ghost whole: { steps % STEPS ≡ 0 },
     // It stands at most at the last filter.
-    ghost within: { steps ≤ 2200 },
+    ghost within: { steps ≤ STEPS * LAST_FILTER },
     // The shutter is 0 or 1.
     ghost flag: { shutter ≤ 1 },
 }
@@ -48,7 +52,7 @@ impl FilterWheel {
 }
 
 impl Device for FilterWheel {
-    ghost meaning = { λ w. wheel (w.steps / 200) w.shutter };
+    ghost meaning = { λ w. wheel (w.steps / STEPS) w.shutter };
 
     fn register_count(&mut self) -> u32 {
         2
@@ -56,7 +60,7 @@ impl Device for FilterWheel {
 
     fn write(&mut self, register: u8, value: u16) -> Result<(), Refused> {
         match (register, value) {
-            (0, 0..=11) => self.steps = STEPS * value,
+            (0, 0..=LAST_FILTER) => self.steps = STEPS * value,
             (1, 0..=1) => self.shutter = value,
             _ => return Err(Refused),
         }

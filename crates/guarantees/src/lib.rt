@@ -2,8 +2,8 @@
 //!
 //! This is for whoever makes runs and has to rely on them. Each of the three calls here loads setup A on a rig around a
 //! fresh lamp panel, passes ten slots, and returns what was answered; and each promises one fact that follows from the
-//! law of whole runs: guest 2 has its full budget, it sees the same whatever guest 1 asks, and guest 1's job is done by
-//! its deadline. A caller with a setup and a device of its own can conclude in the same way.
+//! law of whole runs: guest 2 has its full budget, its entries are the same whether or not guest 1 releases a job, and
+//! guest 1's job is done by its deadline. A caller with a setup and a device of its own can conclude in the same way.
 #![tactic(auto)]
 
 ghost use Rattle.std.specs.Prelude.{◌≡◌, [], ◌∷◌, length, filter, map, replicate};
@@ -12,7 +12,7 @@ ghost use Rattle.rig.specs.Calls.{plan_call, load, release, slot};
 ghost use Rattle.rig.specs.Parts.{operations_of};
 ghost use Rattle.rig.specs.Replies.{answer_numbers};
 ghost use Rattle.runs.specs.Traces.{exchanges};
-ghost use Rattle.runs.specs.Entries.{entries, entries_between, grants_among, is_use_by};
+ghost use Rattle.runs.specs.TraceEntries.{entries, entries_between, grants_among, is_use_by};
 ghost use Rattle.runs.specs.Laws.{InOrder};
 ghost use Rattle.samples.specs.Setups.{setup_a};
 ghost use Rattle.guarantees.specs.TenSlots.{IsPanelRun, ten_slots_after};
@@ -27,11 +27,11 @@ use samples::setup_a;
 /// How many calls are made without a job: the load and ten slots.
 pub const CALLS: usize = 11;
 
-/// How many calls are made with one: its release comes between them.
+/// How many calls are made with a job: the load, its release, and ten slots.
 pub const CALLS_WITH_JOB: usize = 12;
 
 // The load of a setup, and ten slots.
-fn without_job(setup: Setup<'_>) -> [Call<'_>; CALLS]
+fn calls_without_job(setup: Setup<'_>) -> [Call<'_>; CALLS]
     ensures { map plan_call result ≡ load (plan_of setup.entry) ∷ replicate 10 slot }
 {
     let mut calls = [Call::Slot; CALLS];
@@ -40,7 +40,7 @@ fn without_job(setup: Setup<'_>) -> [Call<'_>; CALLS]
 }
 
 // The load of a setup, the release of two operations by guest 1, task 1, and ten slots.
-fn with_job(setup: Setup<'_>) -> [Call<'_>; CALLS_WITH_JOB]
+fn calls_with_job(setup: Setup<'_>) -> [Call<'_>; CALLS_WITH_JOB]
     ensures { map plan_call result ≡ load (plan_of setup.entry) ∷ release 1 1 2 ∷ replicate 10 slot }
 {
     let mut calls = [Call::Slot; CALLS_WITH_JOB];
@@ -71,14 +71,14 @@ pub fn budget_of_guest_2() -> [Answer; CALLS]
     ensures run { IsPanelRun (ten_slots_after [] result) }
     ensures budget { length (grants_among 2 (entries_between 0 10 (ten_slots_after [] result))) ≡ 3 }
 {
-    let calls = without_job(setup_a());
+    let calls = calls_without_job(setup_a());
     answers_on_panel(&calls)
 }
 
 /// Loads setup A on two rigs and passes ten slots of each. Before slot 0 of the second, guest 1 releases two operations
 /// of its task 1; in the first nobody asks anything. Returns what was answered in the first, and in the second.
 ///
-/// Guest 2 sees no difference: its entries are the same in both.
+/// It makes no difference to guest 2: its entries are the same in both.
 pub fn view_of_guest_2() -> ([Answer; CALLS], [Answer; CALLS_WITH_JOB])
     ensures first { IsPanelRun (ten_slots_after [] result.0) }
     ensures second { IsPanelRun (ten_slots_after (release 1 1 2 ∷ []) result.1) }
@@ -86,7 +86,7 @@ pub fn view_of_guest_2() -> ([Answer; CALLS], [Answer; CALLS_WITH_JOB])
         ≡ grants_among 2 (entries (ten_slots_after (release 1 1 2 ∷ []) result.1)) }
 {
     let setup = setup_a();
-    let (first, second) = (without_job(setup), with_job(setup));
+    let (first, second) = (calls_without_job(setup), calls_with_job(setup));
     (answers_on_panel(&first), answers_on_panel(&second))
 }
 
@@ -100,6 +100,6 @@ pub fn job_of_guest_1() -> [Answer; CALLS_WITH_JOB]
     ensures job { InOrder (operations_of setup_a 0 0) 2
         (filter (is_use_by 1 1) (entries_between 0 10 (ten_slots_after (release 1 1 2 ∷ []) result))) }
 {
-    let calls = with_job(setup_a());
+    let calls = calls_with_job(setup_a());
     answers_on_panel(&calls)
 }

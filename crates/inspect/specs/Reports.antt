@@ -5,11 +5,12 @@ use Rattle.decline.specs.declared.Decline.{Decline}
 use Rattle.decline.specs.Refusals.{by_numbers, refusal_text, sentence_text}
 use Rattle.journal.specs.declared.entries.Entry.{Entry}
 use Rattle.journal.specs.declared.blocks.Heading.{Heading}
-use Rattle.journal.specs.Calls.{read_answer, places_after}
+use Rattle.journal.specs.declared.layout.TheConstants.{BLOCK_BYTES}
+use Rattle.journal.specs.WriteRead.{block_read_answer, places_after}
 use Rattle.journal.specs.Text.{entry_text}
 use Rattle.inspect.specs.declared.report.BlockReport.{BlockReport}
-use Rattle.inspect.specs.declared.tally.Tally.{Tally}
-use Rattle.inspect.specs.Tallies.{tallied}
+use Rattle.inspect.specs.declared.counts.Counts.{Counts}
+use Rattle.inspect.specs.BlockCounts.{count_block}
 
 -- the line of an entry, two spaces in
 abbrev pub entry_line : Entry → List ℕ
@@ -20,9 +21,9 @@ abbrev pub entry_lines : List Entry → List ℕ
 entry_lines es = flat_map entry_line es
 
 -- the entries that are listed of a block: those below its count, and none of a block that is refused
-abbrev pub listed : Result Heading Decline → List Entry → List Entry
-listed (Ok h) places = take h.count places
-listed (Err d) places = []
+abbrev pub listed_entries : Result Heading Decline → List Entry → List Entry
+listed_entries (Ok h) places = take h.count places
+listed_entries (Err d) places = []
 
 -- a block that reads well: its number and count, and its entries; one that is refused: where it begins,
 -- the refusal and the sentence
@@ -35,9 +36,9 @@ report_text at (Err d) es =
 
 -- the report of a block after others that were counted, and the counts with it: where it begins,
 -- what reading it answers, and its entries
-pub record Reported (before : Tally) (block : List ℕ) (places : List Entry) (report : BlockReport)
-    (after : Tally) : Type 0 where
-  pub at : report.at ≡ 512 * before.blocks
-  pub answer : by_numbers report.answer ≡ read_answer block places
-  pub entries : report.entries.now ≡ listed report.answer (places_after block places)
-  pub counts : tallied before report.answer ≡ Some after
+pub record IsReport (before : Counts) (block : List ℕ) (places : List Entry) (report : BlockReport)
+    (after : Counts) : Type 0 where
+  pub at : report.at ≡ BLOCK_BYTES * before.blocks
+  pub answer : by_numbers report.answer ≡ block_read_answer block places
+  pub entries : report.entries.now ≡ listed_entries report.answer (places_after block places)
+  pub counts : count_block before report.answer ≡ Some after

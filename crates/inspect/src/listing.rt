@@ -1,11 +1,11 @@
 //! A journal as text: what each block says, and the counts at the end.
-ghost use Rattle.std.specs.Prelude.{◌≡◌, ◌+◌, ◌^◌, ◌<◌, ◌≤◌, vec_len, MatchOption, OnOk};
-ghost use Rattle.journal.specs.Calls.{read_answer};
-ghost use Rattle.inspect.specs.Reports.{Reported};
-ghost use Rattle.inspect.specs.Tallies.{PastCounting};
+ghost use Rattle.std.specs.Prelude.{◌≡◌, ◌+◌, ◌^◌, ◌<◌, ◌≤◌, vec_len, Some, MatchOption, OnOk};
+ghost use Rattle.journal.specs.WriteRead.{block_read_answer};
+ghost use Rattle.inspect.specs.Reports.{IsReport};
+ghost use Rattle.inspect.specs.BlockCounts.{PastCounting, count_block};
 
+use crate::counts::Counts;
 use crate::report::BlockReport;
-use crate::tally::Tally;
 use journal::{BLOCK_BYTES, Entry, Event, PLACES, read};
 use std::alloc::Global;
 use std::io::{self, Read, Write};
@@ -22,18 +22,19 @@ fn next_block<R: Read>(input: &mut R, block: &mut Vec<u8>) -> io::Result<()>
 }
 
 // Reads one block and counts it; the report of it, or none where a count would pass 64 bits. The report borrows from
-// the places, so they are lent beside the tally: of a struct of both no clause could say what it holds afterwards.
+// the places, so they are lent beside the counts: of a struct of both no clause could say what it holds afterwards.
 fn take_block<'a>(
     block: &[u8],
     places: &'a mut [Entry],
-    tally: &mut Tally,
+    counts: &mut Counts,
 ) -> Option<BlockReport<'a>>
-    ensures { MatchOption result (PastCounting tally.old (read_answer block.now places.old))
-        (λ b. Reported tally.old block.now places.old b tally.new) }
+    ensures { MatchOption result
+        (PastCounting counts.old (block_read_answer block.now places.old) × (counts.new ≡ counts.old))
+        (λ b. IsReport counts.old block.now places.old b counts.new) }
 {
-    let at = tally.next_byte()?;
+    let at = counts.next_byte()?;
     let answer = read(block, places);
-    *tally = tally.add(answer)?;
+    *counts = counts.add(answer)?;
     Some(BlockReport::new(at, answer, places))
 }
 
@@ -41,13 +42,14 @@ fn take_block<'a>(
 fn list_block<W: Write>(
     block: &[u8],
     places: &mut [Entry],
-    tally: &mut Tally,
+    counts: &mut Counts,
     out: &mut W,
 ) -> io::Result<()>
-    ensures counted { OnOk result (tally.new.blocks ≡ tally.old.blocks + 1) }
-    ensures bound { OnOk result (tally.new.blocks < 2 ^ 64) }
+    ensures counted { OnOk result (count_block counts.old (block_read_answer block.now places.old) ≡ Some counts.new) }
+    ensures blocks { OnOk result (counts.new.blocks ≡ counts.old.blocks + 1) }
+    ensures bound { OnOk result (counts.new.blocks < 2 ^ 64) }
 {
-    let Some(report) = take_block(block, places, tally) else {
+    let Some(report) = take_block(block, places, counts) else {
         return Err(io::Error::other("the input is longer than 64 bits can count"));
     };
     write!(out, "{report}")
@@ -57,7 +59,7 @@ fn list_block<W: Write>(
 fn list_blocks<R: Read, W: Write>(
     input: &mut R,
     block: &mut Vec<u8>,
-    tally: &mut Tally,
+    counts: &mut Counts,
     out: &mut W,
 ) -> io::Result<()> {
     let mut places = [Entry {
@@ -69,7 +71,7 @@ fn list_blocks<R: Read, W: Write>(
         if block.is_empty() {
             return Ok(());
         }
-        list_block(block, &mut places, tally, out)?;
+        list_block(block, &mut places, counts, out)?;
         if block.len() < BLOCK_BYTES {
             return Ok(());
         }
@@ -82,13 +84,13 @@ pub(crate) fn list<R: Read, W: Write>(
     alloc: Global,
     input: &mut R,
     out: &mut W,
-) -> io::Result<Tally> {
+) -> io::Result<Counts> {
     // Room past the end of a block, so that reading one to its end never asks for more.
     let mut block = Vec::with_capacity(alloc, 2 * BLOCK_BYTES)?;
-    let mut tally = Tally::new();
-    let end = list_blocks(input, &mut block, &mut tally, out);
-    writeln!(out, "{tally}")?;
+    let mut counts = Counts::new();
+    let end = list_blocks(input, &mut block, &mut counts, out);
+    writeln!(out, "{counts}")?;
     out.flush()?;
     end?;
-    Ok(tally)
+    Ok(counts)
 }

@@ -1,24 +1,24 @@
 //! Prints a journal that comes on standard input.
 #![tactic(auto)]
 
+mod counts;
 mod listing;
 mod report;
-mod tally;
 #[cfg(test)]
 mod tests;
 
+use counts::Counts;
 use listing::list;
 use std::alloc::Global;
 use std::io::{self, BufReader, BufWriter, Read, Write};
 use std::process::ExitCode;
-use tally::Tally;
 
 // Prints the journal that an input gives, both through buffers, and answers its counts.
 fn list_buffered<R: Read + Drop, W: Write + Drop>(
     alloc: Global,
     input: R,
     out: W,
-) -> io::Result<Tally> {
+) -> io::Result<Counts> {
     let mut input = BufReader::new(alloc, input)?;
     let mut out = BufWriter::new(alloc, out)?;
     list(alloc, &mut input, &mut out)
@@ -28,8 +28,8 @@ fn list_buffered<R: Read + Drop, W: Write + Drop>(
 // output or memory for the buffers failed.
 fn main(rt: HostRuntime) -> ExitCode {
     match list_buffered(rt.alloc(), rt.stdin(), rt.stdout()) {
-        Ok(tally) => {
-            if tally.refused == 0 {
+        Ok(counts) => {
+            if counts.refused == 0 {
                 ExitCode::SUCCESS
             } else {
                 ExitCode::FAILURE

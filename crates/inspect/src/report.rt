@@ -1,6 +1,6 @@
 //! What is printed of one block.
 ghost use Rattle.std.specs.Prelude.{◌≡◌, ◌≤◌, length, IfOk, Some};
-ghost use Rattle.inspect.specs.Reports.{entry_lines, listed, report_text};
+ghost use Rattle.inspect.specs.Reports.{entry_lines, listed_entries, report_text};
 
 use decline::Decline;
 use journal::{Entry, Heading};
@@ -27,8 +27,11 @@ impl fmt::Display for EntryLines<'_> {
 /// since contracts speak of it.
 #[derive(Clone, Copy, PartialEq, Eq, Debug, Drop)]
 pub struct BlockReport<'a> {
+    /// The byte at which it begins.
     pub at: u64,
+    /// What reading it answered.
     pub answer: Result<Heading, Decline>,
+    /// Its entries; none if it is refused.
     pub entries: &'a [Entry],
 }
 
@@ -42,7 +45,7 @@ impl<'a> BlockReport<'a> {
         requires { IfOk answer (λ h. h.count ≤ length places.now) }
         ensures at { result.at ≡ at }
         ensures answer { result.answer ≡ answer }
-        ensures entries { result.entries.now ≡ listed answer places.now }
+        ensures entries { result.entries.now ≡ listed_entries answer places.now }
     {
         let count = answer.map_or(0, |heading| heading.count);
         BlockReport {

@@ -1,6 +1,6 @@
 //! What is printed of journals that are not whole.
+use crate::counts::Counts;
 use crate::listing::list;
-use crate::tally::Tally;
 use journal::{Entry, Event, write};
 use std::alloc::{AllocError, Global};
 use std::process::Abort;
@@ -12,11 +12,11 @@ fn lists(
     heap: Global,
     bytes: &[u8],
     text: &str,
-    tally: Tally,
+    counts: Counts,
 ) -> Result<(), Fail> {
     let mut input = bytes;
     let mut out = Vec::new(heap);
-    assert_eq!(rt; list(heap, &mut input, &mut out)?, tally);
+    assert_eq!(rt; list(heap, &mut input, &mut out)?, counts);
     assert!(rt; out.as_slice() == text.as_bytes());
     Ok(())
 }
@@ -50,7 +50,7 @@ fn an_empty_input(rt: HostRuntime) -> Result<(), Fail> {
         rt.alloc(),
         &[],
         "0 blocks, 0 entries, 0 refused\n",
-        Tally {
+        Counts {
             blocks: 0,
             entries: 0,
             refused: 0,
@@ -78,7 +78,7 @@ block at byte 1024: refused 19 0 0: the block is not of 512 bytes, or the entrie
         rt.alloc(),
         bytes.as_slice(),
         text,
-        Tally {
+        Counts {
             blocks: 3,
             entries: 2,
             refused: 1,
@@ -102,7 +102,7 @@ block 5: 1 entries
         rt.alloc(),
         bytes.as_slice(),
         text,
-        Tally {
+        Counts {
             blocks: 2,
             entries: 1,
             refused: 1,
@@ -130,7 +130,7 @@ block at byte 512: refused 21 0 1: entry place 1 of the block breaks a rule
         rt.alloc(),
         bytes.as_slice(),
         text,
-        Tally {
+        Counts {
             blocks: 2,
             entries: 0,
             refused: 2,

@@ -8,7 +8,7 @@ use Rattle.std.proofs.lemmas.Nat.{from_be_bytes-to_be_bytes_2}
 use Rattle.journal.specs.declared.entries.Entry.{Entry}
 use Rattle.journal.specs.Bytes.{number2}
 use Rattle.journal.specs.Entries.{entry_bytes}
-use Rattle.journal.specs.Sums.{sum_a, sum_b}
+use Rattle.journal.specs.BlockSums.{sum_a, sum_b}
 use Rattle.journal.specs.Blocks.{entry_at, first_slot, header_bytes, body_bytes, sum_bytes, block_bytes, place_bytes}
 
 -- sum A of a list is below 65,536
@@ -63,29 +63,29 @@ module _ (number : ℕ) (es : List Entry) where
   place_is : (k : ℕ)
       → place_bytes (block_bytes number es) k
       ≡ take 16 (drop (16 * k)
-      (flat_map entry_bytes es ++ (replicate (496 - 16 * length es) 0 ++ sum_bytes (body_bytes number es))))
+      (flat_map entry_bytes es ++ (replicate (16 * (31 - length es)) 0 ++ sum_bytes (body_bytes number es))))
   place_is k =
       ap (take 16) (sym (drop-drop (16 * k) 12 (block_bytes number es)))
       ∙ ap (λ (q : List ℕ). take 16 (drop (16 * k) q))
-      (append_assoc (flat_map entry_bytes es) (replicate (496 - 16 * length es) 0) (sum_bytes (body_bytes number es)))
+      (append_assoc (flat_map entry_bytes es) (replicate (16 * (31 - length es)) 0) (sum_bytes (body_bytes number es)))
 
   -- a used place has the bytes of its entry
   pub place_used : (k : ℕ) → k < length es → place_bytes (block_bytes number es) k ≡ entry_bytes (entry_at es k)
   place_used k h =
-      place_is k ∙ joined_place es k (replicate (496 - 16 * length es) 0 ++ sum_bytes (body_bytes number es)) h
+      place_is k ∙ joined_place es k (replicate (16 * (31 - length es)) 0 ++ sum_bytes (body_bytes number es)) h
 
   -- an unused place is zero
   pub place_unused : (k : ℕ) → length es ≤ k → k < 31 → place_bytes (block_bytes number es) k ≡ replicate 16 0
   place_unused k h l =
-      place_is k ∙ joined_zeros es k (496 - 16 * length es) (sum_bytes (body_bytes number es)) h (omega arith)
+      place_is k ∙ joined_zeros es k (16 * (31 - length es)) (sum_bytes (body_bytes number es)) h (omega arith)
 
   -- before its sums a block of at most 31 entries has 508 bytes
   pub length_body : length es ≤ 31 → length (body_bytes number es) ≡ 508
   length_body h =
       length-append (header_bytes number (length es) (first_slot es))
-      (flat_map entry_bytes es ++ replicate (496 - 16 * length es) 0)
-      ∙ ap (λ (n : ℕ). 12 + n) (length-append (flat_map entry_bytes es) (replicate (496 - 16 * length es) 0))
-      ∙ omega (arith, length_joined es, length-replicate {A = ℕ} (496 - 16 * length es) 0)
+      (flat_map entry_bytes es ++ replicate (16 * (31 - length es)) 0)
+      ∙ ap (λ (n : ℕ). 12 + n) (length-append (flat_map entry_bytes es) (replicate (16 * (31 - length es)) 0))
+      ∙ omega (arith, length_joined es, length-replicate {A = ℕ} (16 * (31 - length es)) 0)
 
   -- a block of at most 31 entries has 512 bytes
   pub length_block : length es ≤ 31 → length (block_bytes number es) ≡ 512

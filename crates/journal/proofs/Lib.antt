@@ -1,6 +1,6 @@
-mod Growth
+mod PartByPart
 mod Failing
-mod Checks
+mod BlockChecks
 mod Digits
 mod EntryLaws
 mod BlockLaws

@@ -15,11 +15,11 @@ use Rattle.journal.specs.Bytes.{number2}
 use Rattle.journal.specs.Entries.{fields_of, fields_at, entry_from, lawful, fits}
 use Rattle.journal.specs.Blocks.{entry_at, first_slot, body_bytes, block_bytes, place_bytes, count_in, first_slot_in}
 use Rattle.journal.specs.Blocks.{entry_in, entries_in, all_zero, entry_fits, header_lawful, place_lawful, first_failing}
-use Rattle.journal.specs.Calls.{write_sized, entries_answer, write_answer, block_left, block_answer}
-use Rattle.journal.specs.Calls.{read_answer, read_sized, places_left, ReadsBack, NeverWritten}
+use Rattle.journal.specs.WriteRead.{write_sized, entries_answer, block_write_answer, block_left, block_answer}
+use Rattle.journal.specs.WriteRead.{block_read_answer, read_sized, places_left, ReadsBack, NeverWritten}
 use Rattle.journal.proofs.EntryLaws.{slot_of, slot_small, entry_back, bytes_back}
 use Rattle.journal.proofs.BlockLaws.{place_used, place_unused, length_body, length_block, sums_made}
-use Rattle.journal.proofs.Checks.{Good, good_answer, only_if_true, only_if_ok, unless_ok}
+use Rattle.journal.proofs.BlockChecks.{Good, good_answer, only_if_true, only_if_ok, unless_ok}
 use Rattle.journal.proofs.Failing.{passing}
 
 module _ (number : ℕ) (es : List Entry) (small : number < 4294967296) (some : 1 ≤ length es) (few : length es ≤ 31)
@@ -95,7 +95,7 @@ module _ (number : ℕ) (es : List Entry) (small : number < 4294967296) (some : 
   reads_back places n =
       let long = length_block number es few in
       let sized : read_sized block places ≡ true = grind (arith, nat_tests) in
-      let answer : read_answer block places ≡ Ok (record { number = number; count = length es }) =
+      let answer : block_read_answer block places ≡ Ok (record { number = number; count = length es }) =
       only_if_true (read_sized block places) BlockSize _ sized
       ∙ good_answer block good
       ∙ ap (λ (m : ℕ). Ok (record { number = m; count = count_in block })) (from_be_bytes-to_be_bytes_4 number small)
@@ -112,7 +112,7 @@ pub record Written (es : List Entry) : Type 0 where
   pub fit : (k : ℕ) → k < length es → entry_fits es k ≡ true
 
 -- entries that `write` takes are 1 to 31, and each fits its place
-written_facts : (es : List Entry) (block : List ℕ) → write_answer es block ≡ Ok tt → Written es
+written_facts : (es : List Entry) (block : List ℕ) → block_write_answer es block ≡ Ok tt → Written es
 unfolding entries_answer
 written_facts es block w =
     let s = only_if_ok (write_sized es block) BlockSize (entries_answer es) tt w in
@@ -133,9 +133,10 @@ never_written bytes n long e number es block small w made =
     let same : block_bytes number es ≡ bytes =
     sym (ap (λ (r : Result (Unit {0}) DeclineNumbers). block_left r number es block) w) ∙ made in
     let sized : read_sized bytes places ≡ true = and_from _ _ (eq-eqb _ 512 long) refl in
-    let refused : read_answer bytes places ≡ Err n = only_if_true (read_sized bytes places) BlockSize _ sized ∙ e in
-    let read : read_answer bytes places ≡ Ok (record { number = number; count = length es }) =
-    ap (λ (b : List ℕ). read_answer b places) (sym same)
+    let refused : block_read_answer bytes places ≡ Err n =
+    only_if_true (read_sized bytes places) BlockSize _ sized ∙ e in
+    let read : block_read_answer bytes places ≡ Ok (record { number = number; count = length es }) =
+    ap (λ (b : List ℕ). block_read_answer b places) (sym same)
     ∙ (reads_back number es small f.some f.few f.fit places refl).0 in
     let clash : ◌≡◌ {A = Result Heading DeclineNumbers} (Err n) (Ok (record { number = number; count = length es })) =
     sym refused ∙ read in

@@ -15,14 +15,14 @@ use Rattle.journal.specs.declared.entries.Entry.{Entry}
 use Rattle.journal.specs.declared.blocks.Heading.{Heading}
 use Rattle.journal.specs.Bytes.{number2, number4}
 use Rattle.journal.specs.Entries.{fields_of, fields_at, field_bytes, entry_bytes, lawful, fits}
-use Rattle.journal.specs.Sums.{sum_a, sum_b}
+use Rattle.journal.specs.BlockSums.{sum_a, sum_b}
 use Rattle.journal.specs.Blocks.{entry_at, first_slot, header_bytes, sum_bytes, block_bytes, place_bytes, count_in}
 use Rattle.journal.specs.Blocks.{first_slot_in, entry_in, entries_in, all_zero, entry_fits, header_lawful}
-use Rattle.journal.specs.Calls.{write_sized, write_answer, block_left, block_after, WritesBack}
+use Rattle.journal.specs.WriteRead.{write_sized, block_write_answer, block_left, block_after, WritesBack}
 use Rattle.journal.proofs.Digits.{Bytes, digits2, digits4, spelled, spelled_is}
 use Rattle.journal.proofs.EntryLaws.{fields_back, part_back}
-use Rattle.journal.proofs.Growth.{block_made}
-use Rattle.journal.proofs.Checks.{Good, heading_in, only_if_true, entries_taken}
+use Rattle.journal.proofs.PartByPart.{block_made}
+use Rattle.journal.proofs.BlockChecks.{Good, heading_in, only_if_true, entries_taken}
 
 -- the rules of a header as plain facts
 pub record Header (block : List ℕ) : Type 0 where
@@ -222,7 +222,7 @@ module _ (block : List ℕ) (long : length block ≡ 512) (bytes : Bytes block) 
       let some : 1 ≤ length entries = subst (λ (m : ℕ). 1 ≤ m) (sym length_entries) header.some in
       let few : length entries ≤ 31 = subst (λ (m : ℕ). m ≤ 31) (sym length_entries) header.few in
       let sized : write_sized entries copy ≡ true = grind (arith, nat_tests) in
-      let answer : write_answer entries copy ≡ Ok tt =
+      let answer : block_write_answer entries copy ≡ Ok tt =
       only_if_true (write_sized entries copy) BlockSize _ sized
       ∙ entries_taken entries entry_fits-entries in
       let after : block_after (number4 block 0) entries copy ≡ block =

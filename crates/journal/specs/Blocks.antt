@@ -4,9 +4,10 @@ use Rattle.std.specs.Prelude.{take, drop, replicate, Some, None, Option, ◌==�
 use Rattle.std.specs.List.{range_with_len, flat_map, list_all}
 use Rattle.journal.specs.declared.entries.Event.TheVariants.{Unassigned}
 use Rattle.journal.specs.declared.entries.Entry.{Entry}
+use Rattle.journal.specs.declared.layout.TheConstants.{ENTRY_BYTES, HEADER_BYTES, PLACES, SLOTS, SUMS_START}
 use Rattle.journal.specs.Bytes.{bytes2, bytes4, number2, number4}
 use Rattle.journal.specs.Entries.{fields_of, fields_at, entry_bytes, entry_from, fits, within}
-use Rattle.journal.specs.Sums.{sum_a, sum_b}
+use Rattle.journal.specs.BlockSums.{sum_a, sum_b}
 
 -- the entry at a position of a list; past its end one that plays no part
 abbrev pub entry_at : List Entry → ℕ → Entry
@@ -23,7 +24,8 @@ header_bytes number count first = bytes4 number ++ (bytes2 count ++ (0 ∷ 0 ∷
 -- bytes 0 to 507: the header, the entries, and zeros in the unused places
 abbrev pub body_bytes : ℕ → List Entry → List ℕ
 body_bytes number es =
-    header_bytes number (length es) (first_slot es) ++ (flat_map entry_bytes es ++ replicate (496 - 16 * length es) 0)
+    header_bytes number (length es) (first_slot es)
+    ++ (flat_map entry_bytes es ++ replicate (ENTRY_BYTES * (PLACES - length es)) 0)
 
 -- the sums of bytes 0 to 507, in two bytes each
 abbrev pub sum_bytes : List ℕ → List ℕ
@@ -35,7 +37,7 @@ block_bytes number es = body_bytes number es ++ sum_bytes (body_bytes number es)
 
 -- the sixteen bytes of place e, from 0
 abbrev pub place_bytes : List ℕ → ℕ → List ℕ
-place_bytes block e = take 16 (drop (12 + 16 * e) block)
+place_bytes block e = take ENTRY_BYTES (drop (HEADER_BYTES + ENTRY_BYTES * e) block)
 
 -- the count of entries that a block states
 abbrev pub count_in : List ℕ → ℕ
@@ -63,11 +65,14 @@ entry_fits es k = fits (first_slot es + k) (fields_of (entry_at es k))
 
 -- the sums at the end are those of bytes 0 to 507
 abbrev pub sums_agree : List ℕ → Bool
-sums_agree block = number2 block 508 == sum_a (take 508 block) && number2 block 510 == sum_b (take 508 block)
+sums_agree block =
+    number2 block SUMS_START == sum_a (take SUMS_START block)
+    && number2 block (SUMS_START + 2) == sum_b (take SUMS_START block)
 
 -- the rules of a header: 1 to 31 entries, two zero bytes, a first slot below 16,777,216
 abbrev pub header_lawful : List ℕ → Bool
-header_lawful block = within 1 31 (count_in block) && (number2 block 6 == 0 && nat_lt (first_slot_in block) 16777216)
+header_lawful block =
+    within 1 PLACES (count_in block) && (number2 block 6 == 0 && nat_lt (first_slot_in block) SLOTS)
 
 -- the rules of a place: below the count an entry of its slot, past it zeros
 abbrev pub place_lawful : List ℕ → ℕ → Bool

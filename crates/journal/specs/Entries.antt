@@ -10,6 +10,8 @@ use Rattle.journal.specs.declared.entries.Event.{Event}
 use Rattle.journal.specs.declared.entries.Event.TheVariants.{Unassigned, Fixed, Used, Idle}
 use Rattle.journal.specs.declared.entries.Entry.{Entry}
 use Rattle.journal.specs.declared.fields.Fields.{Fields}
+use Rattle.journal.specs.declared.layout.TheConstants.{FIXED_OPERATIONS, FOUR_BYTE_NUMBERS, GUESTS, POSITIONS}
+use Rattle.journal.specs.declared.layout.TheConstants.{REGISTERS, SLOTS, TASKS, VALUES}
 use Rattle.journal.specs.Bytes.{bytes2, bytes4, number2, number4}
 
 -- the number of each outcome
@@ -101,7 +103,7 @@ no_access f = f.register == 0 && (f.outcome == 0 && f.value == 0)
 
 -- an outcome, and a register and a value that fit their bytes
 abbrev pub some_access : Fields → Bool
-some_access f = within 1 3 f.outcome && (nat_lt f.register 256 && nat_lt f.value 65536)
+some_access f = within 1 3 f.outcome && (nat_lt f.register REGISTERS && nat_lt f.value VALUES)
 
 -- the fields of a slot that nobody got: none but slot and kind
 abbrev pub unassigned_fields : Fields → Bool
@@ -109,21 +111,22 @@ unassigned_fields f = f.guest == 0 && (f.item == 0 && (f.position == 0 && (no_ac
 
 -- the fields of a fixed operation: its number from 1 to 32, and no guest, position or deadline
 abbrev pub fixed_fields : Fields → Bool
-fixed_fields f = f.guest == 0 && (within 1 32 f.item && (f.position == 0 && (some_access f && f.deadline == 0)))
+fixed_fields f =
+    f.guest == 0 && (within 1 FIXED_OPERATIONS f.item && (f.position == 0 && (some_access f && f.deadline == 0)))
 
 -- the fields of a used grant: guest 1 to 16, task 1 to 8, position 1 to 16, and a deadline of four bytes after the slot
 abbrev pub used_fields : Fields → Bool
 used_fields f =
-    within 1 16 f.guest && (within 1 8 f.item && (within 1 16 f.position
-    && (some_access f && (nat_lt f.slot f.deadline && nat_lt f.deadline 4294967296))))
+    within 1 GUESTS f.guest && (within 1 TASKS f.item && (within 1 POSITIONS f.position
+    && (some_access f && (nat_lt f.slot f.deadline && nat_lt f.deadline FOUR_BYTE_NUMBERS))))
 
 -- the fields of an idle grant: guest 1 to 16, and none but slot and kind besides
 abbrev pub idle_fields : Fields → Bool
-idle_fields f = within 1 16 f.guest && (f.item == 0 && (f.position == 0 && (no_access f && f.deadline == 0)))
+idle_fields f = within 1 GUESTS f.guest && (f.item == 0 && (f.position == 0 && (no_access f && f.deadline == 0)))
 
 -- the rules of an entry, on its nine fields
 abbrev pub lawful : Fields → Bool
-lawful f = nat_lt f.slot 16777216
+lawful f = nat_lt f.slot SLOTS
     && cond (f.kind == 0) (unassigned_fields f)
     (cond (f.kind == 1) (fixed_fields f)
     (cond (f.kind == 2) (used_fields f)

@@ -1,7 +1,7 @@
 pub mod Bytes
 pub mod Kind
 pub mod Entries
-pub mod Sums
+pub mod BlockSums
 pub mod Blocks
-pub mod Calls
+pub mod WriteRead
 pub mod Text

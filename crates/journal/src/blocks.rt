@@ -8,25 +8,16 @@ ghost use Rattle.journal.specs.Bytes.{number4};
 ghost use Rattle.journal.specs.Blocks.{count_in, first_slot_in, entry_in, header_bytes};
 ghost use Rattle.journal.specs.Blocks.{sum_bytes, place_bytes, entries_in, all_zero, entry_fits};
 ghost use Rattle.journal.specs.Blocks.{sums_agree, header_lawful, place_lawful, first_failing};
-ghost use Rattle.journal.specs.Calls.{entries_answer, write_answer, block_left, block_after, block_answer, read_sized};
-ghost use Rattle.journal.specs.Calls.{read_answer, places_left, places_after, ReadsBack, WritesBack, NeverWritten};
+ghost use Rattle.journal.specs.WriteRead.{entries_answer, block_write_answer, block_left, block_after, block_answer};
+ghost use Rattle.journal.specs.WriteRead.{read_sized};
+ghost use Rattle.journal.specs.WriteRead.{block_read_answer, places_left, places_after, ReadsBack, WritesBack};
+ghost use Rattle.journal.specs.WriteRead.{NeverWritten};
 
 use crate::entries::Entry;
-use crate::fields::{ENTRY_BYTES, Fields, SLOTS};
+use crate::fields::Fields;
+use crate::layout::{BLOCK_BYTES, ENTRY_BYTES, HEADER_BYTES, PLACES, SLOTS, SUMS_START};
 use crate::sums::BlockSums;
 use decline::Decline;
-
-/// The bytes of a block.
-pub const BLOCK_BYTES: usize = 512;
-
-/// The places for entries in a block.
-pub const PLACES: usize = 31;
-
-// The bytes before the places.
-const HEADER_BYTES: usize = 12;
-
-// The byte at which the sums begin.
-const SUMS_START: usize = 508;
 
 /// What a block that reads well says of itself: its number, and how many entries it has. The entries are in places that
 /// the caller lends, so their count stands here; its fields are open, so that it is at most 31 is said where one is
@@ -45,7 +36,7 @@ type Block = [u8; BLOCK_BYTES];
 // The byte at which a place begins.
 fn place_start(e: usize) -> usize
     requires { e ≤ PLACES }
-    ensures { result ≡ 12 + 16 * e }
+    ensures { result ≡ HEADER_BYTES + ENTRY_BYTES * e }
 {
     HEADER_BYTES + ENTRY_BYTES * e
 }
@@ -94,7 +85,7 @@ fn entry(block: &Block, e: usize) -> Entry
     requires { e < PLACES }
     ensures { result ≡ entry_in block.now e }
 {
-    Entry::from(Fields::from(place(block, e)))
+    Fields::from(place(block, e)).entry()
 }
 
 // Whether the sums at the end are those of the bytes before them.
@@ -142,7 +133,7 @@ fn first_broken(block: &Block) -> Option<usize>
 }
 
 // The heading of a block that keeps the rules of the format, or the first rule that it breaks.
-#[tactic(auto, unfolding(crate::specs::Calls::block_answer))]
+#[tactic(auto, unfolding(crate::specs::WriteRead::block_answer))]
 fn examine(block: &Block) -> Result<Heading, Decline>
     ensures answer { by_numbers result ≡ block_answer block.now }
     ensures bound { IfOk result (λ h. h.count ≤ PLACES) }
@@ -190,7 +181,7 @@ fn read_sized(block: &Block, places: &mut [Entry; PLACES]) -> Result<Heading, De
 /// Reads a block of 512 bytes into 31 places: the places below the count get its entries, and those past it keep what
 /// they held. A block that is refused changes nothing. Block and places are the caller's, each on its own.
 pub fn read(block: &[u8], places: &mut [Entry]) -> Result<Heading, Decline>
-    ensures answer { by_numbers result ≡ read_answer block.now places.old }
+    ensures answer { by_numbers result ≡ block_read_answer block.now places.old }
     ensures after { places.new ≡ places_after block.now places.old }
     ensures bound { IfOk result (λ h. h.count ≤ length places.old) }
     ensures writes_back { IfOk result (λ h. WritesBack h places.new block.now) }
@@ -216,17 +207,18 @@ fn first_unfit(entries: &[Entry]) -> Option<usize>
         .position(|(e, entry)| !Fields::from(entry).fits(first + e as u64))
 }
 
-// Puts bytes into a block from byte `at` on.
+// Puts bytes into a block from byte `at` on, and keeps the others.
 fn put<const N: usize>(block: &mut Block, at: usize, bytes: &[u8; N])
     requires { at + N ≤ BLOCK_BYTES }
-    ensures { take (at + N) block.new ≡ take at block.old ++ bytes.now }
+    ensures bytes { take (at + N) block.new ≡ take at block.old ++ bytes.now }
+    ensures rest { drop (at + N) block.new ≡ drop (at + N) block.old }
 {
     block[at..at + N].copy_from_slice(bytes);
 }
 
 // Puts the bytes of the header.
 fn put_header(block: &mut Block, number: u32, count: u16, first: u32)
-    ensures { take 12 block.new ≡ header_bytes number count first }
+    ensures { take HEADER_BYTES block.new ≡ header_bytes number count first }
 {
     put(block, 0, &number.to_be_bytes());
     put(block, 4, &count.to_be_bytes());
@@ -238,7 +230,8 @@ fn put_header(block: &mut Block, number: u32, count: u16, first: u32)
 // of what `chunks_exact_mut` leaves.
 fn put_entries(block: &mut Block, entries: &[Entry])
     requires { length entries.now ≤ PLACES }
-    ensures { take (12 + 16 * length entries.now) block.new ≡ take 12 block.old ++ flat_map entry_bytes entries.now }
+    ensures { take (HEADER_BYTES + ENTRY_BYTES * length entries.now) block.new
+        ≡ take HEADER_BYTES block.old ++ flat_map entry_bytes entries.now }
 {
     for (e, entry) in entries.iter().enumerate() {
         let bytes: [u8; ENTRY_BYTES] = Fields::from(entry).into();
@@ -249,21 +242,21 @@ fn put_entries(block: &mut Block, entries: &[Entry])
 // Zeros from byte `from` on to the sums.
 fn put_zeros(block: &mut Block, from: usize)
     requires { from ≤ SUMS_START }
-    ensures { take 508 block.new ≡ take from block.old ++ replicate (508 - from) 0 }
+    ensures { take SUMS_START block.new ≡ take from block.old ++ replicate (SUMS_START - from) 0 }
 {
     block[from..SUMS_START].fill(0);
 }
 
 // Puts the sums of the bytes before them.
 fn put_sums(block: &mut Block)
-    ensures { block.new ≡ take 508 block.old ++ sum_bytes (take 508 block.old) }
+    ensures { block.new ≡ take SUMS_START block.old ++ sum_bytes (take SUMS_START block.old) }
 {
     let bytes: [u8; 4] = BlockSums::of(&block[0..SUMS_START]).into();
     put(block, SUMS_START, &bytes);
 }
 
 // Writes 1 to 31 entries into a block of the right size.
-#[tactic(auto, unfolding(crate::specs::Calls::entries_answer))]
+#[tactic(auto, unfolding(crate::specs::WriteRead::entries_answer))]
 fn write_sized(number: u32, entries: &[Entry], block: &mut Block) -> Result<(), Decline>
     requires { (0 < length entries.now) × (length entries.now ≤ PLACES) }
     ensures answer { by_numbers result ≡ entries_answer entries.now }
@@ -284,7 +277,7 @@ fn write_sized(number: u32, entries: &[Entry], block: &mut Block) -> Result<(), 
 
 /// Writes 1 to 31 entries of successive slots into a block of 512 bytes. A write that is refused changes nothing.
 pub fn write(number: u32, entries: &[Entry], block: &mut [u8]) -> Result<(), Decline>
-    ensures answer { by_numbers result ≡ write_answer entries.now block.old }
+    ensures answer { by_numbers result ≡ block_write_answer entries.now block.old }
     ensures after { block.new ≡ block_after number entries.now block.old }
     ensures reads_back { OnOk result (ReadsBack number entries.now block.new) }
 {

@@ -6,12 +6,7 @@ ghost use Rattle.journal.specs.Entries.{unassigned_fields, fixed_fields, used_fi
 ghost use Rattle.journal.specs.Entries.{lawful, access_from, event_from, entry_from, fits};
 
 use crate::entries::{Access, Entry, Event, Outcome};
-
-// Slots are numbered from 0 to below this.
-pub(crate) const SLOTS: u32 = 16_777_216;
-
-// The bytes of an entry.
-pub(crate) const ENTRY_BYTES: usize = 16;
+use crate::layout::{ENTRY_BYTES, FIXED_OPERATIONS, GUESTS, POSITIONS, SLOTS, TASKS};
 
 // The kinds of events, each with its number.
 #[derive(Clone, Copy)]
@@ -43,14 +38,23 @@ impl TryFrom<u8> for Kind {
 /// not have is 0. Kind and outcome are numbers here, since bytes from outside may be of no kind and no outcome.
 #[derive(Clone, Copy, Default)]
 pub struct Fields {
+    /// The slot.
     pub slot: u32,
+    /// The kind of what happened, 0 to 3.
     pub kind: u8,
+    /// The guest, from 1.
     pub guest: u8,
+    /// The task or the fixed operation, from 1.
     pub item: u8,
+    /// The position of the operation in its job, from 1.
     pub position: u8,
+    /// The register that was written or read.
     pub register: u8,
+    /// The outcome, 1 to 3.
     pub outcome: u8,
+    /// The value that was written, read or offered.
     pub value: u16,
+    /// The number of slots by which the job was due.
     pub deadline: u32,
 }
 
@@ -166,20 +170,19 @@ impl From<Fields> for [u8; ENTRY_BYTES] {
     }
 }
 
-// The entry that the fields spell. It is total: of fields that break a rule of entries, an unknown kind is taken for an
-// idle grant and an unknown outcome for a refusal; `read` tests the rules before.
-impl From<Fields> for Entry {
-    ghost from_gives = { λ fields entry. entry ≡ entry_from fields };
-
-    fn from(fields: Fields) -> Entry {
+impl Fields {
+    // The entry that the fields spell, for those that keep the rules of entries. It is total, since `read` tests the
+    // rules before: an unknown kind is taken for an idle grant and an unknown outcome for a refusal. So it is no
+    // conversion, which would be public.
+    pub(crate) fn entry(self) -> Entry
+        ensures { result ≡ entry_from self }
+    {
         Entry {
-            slot: fields.slot,
-            event: fields.event(),
+            slot: self.slot,
+            event: self.event(),
         }
     }
-}
 
-impl Fields {
     // What happened, by the kind, which is 0 to 3 in a lawful entry. It is part of an entry, so no conversion.
     fn event(self) -> Event
         ensures { result ≡ event_from self }
@@ -246,7 +249,7 @@ impl Fields {
         ensures { result ≡ fixed_fields self }
     {
         self.guest == 0
-            && (1..=32).contains(&self.item)
+            && (1..=FIXED_OPERATIONS).contains(&self.item)
             && self.position == 0
             && self.some_access()
             && self.deadline == 0
@@ -256,9 +259,9 @@ impl Fields {
     fn used(self) -> bool
         ensures { result ≡ used_fields self }
     {
-        (1..=16).contains(&self.guest)
-            && (1..=8).contains(&self.item)
-            && (1..=16).contains(&self.position)
+        (1..=GUESTS).contains(&self.guest)
+            && (1..=TASKS).contains(&self.item)
+            && (1..=POSITIONS).contains(&self.position)
             && self.some_access()
             && self.slot < self.deadline
     }
@@ -267,7 +270,7 @@ impl Fields {
     fn idle(self) -> bool
         ensures { result ≡ idle_fields self }
     {
-        (1..=16).contains(&self.guest) && self.no_operation()
+        (1..=GUESTS).contains(&self.guest) && self.no_operation()
     }
 
     // No field but slot, kind and guest.

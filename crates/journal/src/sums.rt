@@ -1,7 +1,9 @@
 //! The two sums of a part of a block.
 ghost use Rattle.std.specs.Prelude.{◌≡◌, ◌+◌, ◌%◌, ◌++◌};
 ghost use Rattle.journal.specs.Bytes.{bytes2, number2};
-ghost use Rattle.journal.specs.Sums.{sum_a, sum_b};
+ghost use Rattle.journal.specs.BlockSums.{sum_a, sum_b};
+
+use crate::layout::SUM_MODULUS;
 
 // Sums A and B, each modulo 65,536.
 #[derive(Clone, Copy, PartialEq, Eq)]
@@ -13,11 +15,11 @@ pub(crate) struct BlockSums {
 // The sums of a part from its first byte and the sums of the rest. They are reduced by a remainder: no sum wraps,
 // here or elsewhere.
 fn sums_with(first: u8, rest_a: u16, rest_b: u16) -> (u16, u16)
-    ensures a { result.0 ≡ (first + rest_a) % 65536 }
-    ensures b { result.1 ≡ ((first + rest_a) % 65536 + rest_b) % 65536 }
+    ensures a { result.0 ≡ (first + rest_a) % SUM_MODULUS }
+    ensures b { result.1 ≡ ((first + rest_a) % SUM_MODULUS + rest_b) % SUM_MODULUS }
 {
-    let a = (u32::from(first) + u32::from(rest_a)) % 65_536;
-    let b = (a + u32::from(rest_b)) % 65_536;
+    let a = (u32::from(first) + u32::from(rest_a)) % SUM_MODULUS;
+    let b = (a + u32::from(rest_b)) % SUM_MODULUS;
     (a as u16, b as u16)
 }
 

@@ -1,3 +1,3 @@
 pub mod RigInvariant
-pub mod Places
+pub mod PlanPlaces
 pub mod Steps

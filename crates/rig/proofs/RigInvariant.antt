@@ -14,8 +14,8 @@ use Rattle.rig.specs.declared.tally.Tally.{Tally}
 use Rattle.rig.specs.State.{state_at_load, job_at_start, row_at_start, no_job}
 use Rattle.rig.specs.State.{row_at, job_at, rows_with, no_tally, tally_at}
 use Rattle.rig.specs.Parts.{task_of}
-use Rattle.rig.proofs.Places.{task_ok}
-use Rattle.rig.specs.Invariants.{PlanInvariant, JobInvariant, JobsInvariant, JobWaits}
+use Rattle.rig.proofs.PlanPlaces.{task_ok}
+use Rattle.rig.specs.Invariants.{PlanInvariant, JobInvariant, JobsInvariant, HasNextOperation}
 use Rattle.rig.specs.Invariants.{TallyInvariant, TalliesInvariant, StateInvariant}
 
 module _ {X : Type 0} (xs : List X) (p : ℕ) (x d : X) (holds : ℕ → X → Type 0) where
@@ -80,11 +80,11 @@ cost_within p g k some =
           absurd (omega (arith, none, some)))
     ]
 
--- so much is known of each pending job where the invariant holds
-pub job_waits : (p : Plan) (jobs : List (List Job)) (g k : ℕ) → PlanInvariant p → g < length p.guests
-    → JobsInvariant p jobs → (job_at jobs g k).pending ≡ true → JobWaits p g k (job_at jobs g k)
+-- a pending job has a next operation, where the invariant holds
+pub has_next_operation : (p : Plan) (jobs : List (List Job)) (g k : ℕ) → PlanInvariant p → g < length p.guests
+    → JobsInvariant p jobs → (job_at jobs g k).pending ≡ true → HasNextOperation p g k (job_at jobs g k)
 unfolding JobsInvariant
-job_waits p jobs g k kept guest all pending =
+has_next_operation p jobs g k kept guest all pending =
     let j = job_at jobs g k in
     let (fewer, most) = all g k pending in
     let task = cost_within p g k (omega (arith, fewer, most)) in

@@ -31,7 +31,7 @@ abbrev pub access_of : Meaning → Operation → Access
 access_of m (Write r v) = write_access r v (write_answer m r v)
 access_of m (Read r) = read_access r (read_answer m r)
 
--- what the device means after it
+-- what the device means after an operation
 abbrev pub after_operation : Meaning → Operation → Meaning
 after_operation m (Write r v) = after_write m r v
 after_operation m (Read r) = m

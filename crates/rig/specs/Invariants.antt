@@ -1,22 +1,22 @@
 -- What is true of the tables of every loaded rig.
-use Rattle.std.specs.Prelude.{◌≡◌, ℕ, ◌<◌, ◌≤◌, true, List, [], slice_index_or, Option, Some, None, Result, MatchResult}
-use Rattle.decline.specs.declared.Decline.{Decline}
+use Rattle.std.specs.Prelude.{◌≡◌, ℕ, ◌<◌, ◌≤◌, true, List}
 use Rattle.setups.specs.Plan.{Plan, guest_at}
 use Rattle.admission.specs.Verdict.{Accepted}
 use Rattle.schedule.specs.Session.{Session}
-use Rattle.setups.specs.declared.limits.TheConstants.{MOST_SLOTS, MOST_GUEST_TASKS, HIGHEST_COST}
+use Rattle.setups.specs.declared.limits.TheConstants.{MOST_SLOTS, HIGHEST_COST}
 use Rattle.rig.specs.declared.job.Job.{Job}
 use Rattle.rig.specs.declared.tally.Tally.{Tally}
 use Rattle.rig.specs.Parts.{task_of}
 use Rattle.rig.specs.Slot.{with_operation}
-use Rattle.rig.specs.State.{State, no_job, job_at, tally_at}
+use Rattle.rig.specs.State.{State, job_at, tally_at}
 
 -- a plan was accepted for a device of some register count
 pub record PlanInvariant (p : Plan) : Type 0 where
   pub registers : ℕ
   pub accepted : Accepted p registers
 
--- a pending job of task k of guest g has fewer operations done than it has, and no more than the task costs
+-- a pending job of task k of guest g, both from 0, has fewer operations done than it has, and no more than the task
+-- costs
 abbrev pub JobInvariant : Plan → ℕ → ℕ → Job → Type 0
 JobInvariant p g k j = j.pending ≡ true → (j.done < j.size) × (j.size ≤ (task_of p g k).cost)
 
@@ -24,8 +24,9 @@ JobInvariant p g k j = j.pending ≡ true → (j.done < j.size) × (j.size ≤ (
 unfoldable pub JobsInvariant : Plan → List (List Job) → Type 0
 JobsInvariant p jobs = (g k : ℕ) → JobInvariant p g k (job_at jobs g k)
 
--- what is known of a pending job: its task is one of its guest's, and has its next operation
-pub record JobWaits (p : Plan) (g k : ℕ) (j : Job) : Type 0 where
+-- a job has a next operation: its task is one of its guest's and costs more than is done, and the invariant holds after
+-- it
+pub record HasNextOperation (p : Plan) (g k : ℕ) (j : Job) : Type 0 where
   pub task : k < (guest_at p.guests g).task_count
   pub operation : j.done < (task_of p g k).cost
   pub few : j.done < HIGHEST_COST
@@ -43,24 +44,11 @@ unfoldable pub TalliesInvariant : ℕ → List Tally → Type 0
 TalliesInvariant passed tallies = (g : ℕ) → TallyInvariant passed (tally_at tallies g)
 
 -- the session is no longer than any may be, and no more slots have passed than it has
-abbrev pub IsWithinSession : Session → Type 0
-IsWithinSession s = (s.slots ≤ MOST_SLOTS) × (s.passed ≤ s.slots)
+abbrev pub SessionInvariant : Session → Type 0
+SessionInvariant s = (s.slots ≤ MOST_SLOTS) × (s.passed ≤ s.slots)
 
 -- the invariants of the plan, of its jobs and of its tallies hold
 pub record StateInvariant (s : State) : Type 0 where
   pub plan : PlanInvariant s.plan
   pub jobs : JobsInvariant s.plan s.jobs
   pub tallies : TalliesInvariant s.passed s.tallies
-
--- a state of which only the plan, the slots passed and the jobs play a part
-abbrev pub state_of_jobs : Plan → ℕ → List (List Job) → State
-state_of_jobs p passed jobs = record { plan = p; passed = passed; jobs = jobs; tallies = [] }
-
--- the job at place k of a row is there, and is pending
-abbrev pub WaitsAt : List Job → ℕ → Type 0
-WaitsAt row k = (k < MOST_GUEST_TASKS) × ((slice_index_or row k no_job).pending ≡ true)
-
--- a request answers unless it is refused: where there is no refusal its result is such,
--- else it is refused for that reason
-abbrev pub AnswersUnless : {X : Type 0} → Result X Decline → Option Decline → (X → Type 0) → Type 0
-AnswersUnless result refusal holds = MatchResult result (λ x. (refusal ≡ None) × holds x) (λ d. refusal ≡ Some d)

@@ -6,7 +6,7 @@ pub mod Parts
 pub mod Replies
 pub mod Requests
 pub mod Slot
-pub mod SlotTables
+pub mod AfterSlot
 pub mod State
 pub mod Step
 pub mod Text

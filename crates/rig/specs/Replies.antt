@@ -10,6 +10,7 @@ use Rattle.journal.specs.Entries.{fields_of}
 use Rattle.rig.specs.declared.reply.Reply.{Reply}
 use Rattle.rig.specs.declared.reply.Reply.TheVariants.{Loaded, Released, Withdrawn, Told, Passed}
 use Rattle.rig.specs.declared.reply.ReplyNumbers.{ReplyNumbers}
+use Rattle.rig.specs.declared.reply.TheConstants.{PASSED}
 
 -- an entry as nine numbers: its fields in the order of its bytes
 abbrev pub entry_numbers : Entry → List ℕ
@@ -23,7 +24,7 @@ reply_numbers Loaded = record { case = 1; numbers = replicate 9 0 }
 reply_numbers (Released d) = record { case = 2; numbers = d ∷ replicate 8 0 }
 reply_numbers (Withdrawn n) = record { case = 3; numbers = n ∷ replicate 8 0 }
 reply_numbers (Told t) = record { case = 4; numbers = t.granted ∷ t.used ∷ t.idle ∷ t.finished ∷ replicate 5 0 }
-reply_numbers (Passed e) = record { case = 5; numbers = entry_numbers e }
+reply_numbers (Passed e) = record { case = PASSED; numbers = entry_numbers e }
 
 -- two replies with the same numbers are the same
 abbrev pub SaysWhichReply : Type 0
@@ -39,9 +40,14 @@ answer_numbers (Ok r) = Ok (reply_numbers r)
 answer_numbers (Err d) = Err (numbers_of d)
 
 -- an answer by its numbers, where `reply` makes the reply of a result
-abbrev pub replied : {X : Type 0} → (X → Reply) → Result X DeclineNumbers → NumberedAnswer
-replied reply (Ok x) = Ok (reply_numbers (reply x))
-replied reply (Err n) = Err n
+abbrev pub answer_by : {X : Type 0} → (X → Reply) → Result X DeclineNumbers → NumberedAnswer
+answer_by reply (Ok x) = Ok (reply_numbers (reply x))
+answer_by reply (Err n) = Err n
+
+-- the entry that a reply brings: that of the slot that passed, if one did
+abbrev pub entry_of_reply : Reply → Option Entry
+entry_of_reply (Passed e) = Some e
+entry_of_reply _ = None
 
 -- nine numbers as the fields of an entry
 abbrev pub fields_from : List ℕ → Fields
@@ -57,7 +63,7 @@ fields_from ns = record {
   deadline = slice_index ns 8;
 }
 
--- the fields of the entry that an answer brings: a reply of case 5, that a slot passed, brings one
+-- the fields of the entry that an answer brings: a reply that a slot passed brings one
 abbrev pub entry_of : NumberedAnswer → Option Fields
-entry_of (Ok r) = if r.case == 5 then Some (fields_from r.numbers) else None
+entry_of (Ok r) = if r.case == PASSED then Some (fields_from r.numbers) else None
 entry_of (Err n) = None

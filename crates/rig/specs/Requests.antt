@@ -1,7 +1,10 @@
--- What a loaded rig answers a guest that releases a job, withdraws one or asks, and what that leaves.
-use Rattle.std.specs.Prelude.{ℕ, ◌+◌, ◌-◌, true, false, ◌&&◌, not, nat_lt, nat_le, Option, Some, None, if◌then◌else◌}
+-- What a loaded rig answers a guest that releases a job, withdraws one or asks, and what that leaves. Guests and tasks
+-- count from 1 here, as in calls.
+use Rattle.std.specs.Prelude.{◌≡◌, ℕ, ◌+◌, ◌-◌, true, false, ◌&&◌, not, nat_lt, nat_le, List, []}
+use Rattle.std.specs.Prelude.{Option, Some, None, Result, MatchResult, if◌then◌else◌}
 use Rattle.decline.specs.declared.Decline.{Decline}
 use Rattle.decline.specs.declared.Decline.TheVariants.{NotFound, JobSize, JobTooSoon, JobPending, NoJob}
+use Rattle.setups.specs.Plan.{Plan}
 use Rattle.rig.specs.declared.job.Job.{Job}
 use Rattle.rig.specs.Parts.{task_of, is_guest, is_task}
 use Rattle.rig.specs.State.{State, job_of, jobs_with}
@@ -32,11 +35,11 @@ job_from_now s g k m = record {
   next_start = s.passed + (task_of s.plan (g - 1) (k - 1)).separation;
 }
 
--- the rig after a job is put in the place of task k of guest g
+-- the state after a job is put in the place of task k of guest g
 abbrev pub with_job : State → ℕ → ℕ → Job → State
 with_job s g k j = record s { jobs = jobs_with s (g - 1) (k - 1) j }
 
--- the rig after a release that is not refused
+-- the state after a release that is not refused
 abbrev pub with_release : State → ℕ → ℕ → ℕ → State
 with_release s g k m = with_job s g k (job_from_now s g k m)
 
@@ -55,10 +58,19 @@ done_of s g k = (job_of s (g - 1) (k - 1)).done
 abbrev pub withdrawn_job : Job → Job
 withdrawn_job j = record j { pending = false }
 
--- the rig after a withdrawal that is not refused
+-- the state after a withdrawal that is not refused
 abbrev pub with_withdrawal : State → ℕ → ℕ → State
 with_withdrawal s g k = with_job s g k (withdrawn_job (job_of s (g - 1) (k - 1)))
 
 -- why a question about guest g is refused, if it is
 abbrev pub question_refusal : State → ℕ → Option Decline
 question_refusal s g = if is_guest s.plan g then None else Some (NotFound g 0)
+
+-- a state of which only the plan, the slots passed and the jobs play a part
+abbrev pub state_of_jobs : Plan → ℕ → List (List Job) → State
+state_of_jobs p passed jobs = record { plan = p; passed = passed; jobs = jobs; tallies = [] }
+
+-- a request answers unless it is refused: with no refusal it has a result, of which something holds; with one, it is
+-- refused for that reason
+abbrev pub AnswersUnless : {X : Type 0} → Result X Decline → Option Decline → (X → Type 0) → Type 0
+AnswersUnless result refusal holds = MatchResult result (λ x. (refusal ≡ None) × holds x) (λ d. refusal ≡ Some d)

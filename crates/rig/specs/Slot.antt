@@ -1,11 +1,12 @@
 -- One slot of a loaded rig: what it is for, what the journal says of it, and what it leaves.
-use Rattle.std.specs.Prelude.{ℕ, ◌+◌, ◌-◌, Bool, nat_lt, nat_le, not, List}
-use Rattle.std.specs.Prelude.{slice_set, Option, Some, None, if◌then◌else◌}
+use Rattle.std.specs.Prelude.{◌≡◌, ℕ, ◌+◌, ◌-◌, ◌<◌, Bool, true, nat_lt, nat_le, not, List}
+use Rattle.std.specs.Prelude.{slice_index_or, slice_set, Option, Some, None, if◌then◌else◌}
 use Rattle.decline.specs.declared.Decline.{Decline}
 use Rattle.decline.specs.declared.Decline.TheVariants.{SessionEnd}
 use Rattle.journal.specs.declared.entries.Event.{Event}
 use Rattle.journal.specs.declared.entries.Event.TheVariants as event
 use Rattle.journal.specs.declared.entries.Entry.{Entry}
+use Rattle.setups.specs.declared.limits.TheConstants.{MOST_GUEST_TASKS}
 use Rattle.setups.specs.Plan.{operation_at}
 use Rattle.device.specs.Meaning.{Meaning}
 use Rattle.waiting.specs.Earliest.{earliest}
@@ -18,14 +19,18 @@ use Rattle.rig.specs.declared.work.Work.{Work}
 use Rattle.rig.specs.declared.work.Work.TheVariants.{Nothing, Fixed, Idle, Next}
 use Rattle.rig.specs.Access.{access_of, after_operation}
 use Rattle.rig.specs.Parts.{operations_of, fixed_operation}
-use Rattle.rig.specs.State.{State, jobs_of, job_of, tally_of, jobs_with, job_rank, is_pending}
+use Rattle.rig.specs.State.{State, no_job, jobs_of, job_of, tally_of, jobs_with, job_rank, is_pending}
 
 -- the place of the job that goes first: of those that are pending the one with the nearest deadline,
 -- and of equal deadlines the least task
 abbrev pub first_job : List Job → Option ℕ
 first_job js = earliest is_pending job_rank js
 
--- what a slot is for that is granted to guest g, by the place of its job that goes first:
+-- the job at place k of a row is there, and is pending
+abbrev pub WaitsAt : List Job → ℕ → Type 0
+WaitsAt row k = (k < MOST_GUEST_TASKS) × ((slice_index_or row k no_job).pending ≡ true)
+
+-- what a slot is for that is granted to guest g, from 0, by the place of its job that goes first:
 -- the next operation of that job, or nothing
 abbrev pub granted_work : State → ℕ → Option ℕ → Work
 granted_work s g None = Idle (g + 1)
@@ -79,18 +84,15 @@ with_used j t = record t {
 
 -- the jobs after a slot
 abbrev pub jobs_after : State → Work → List (List Job)
-jobs_after s Nothing = s.jobs
-jobs_after s (Fixed p o) = s.jobs
-jobs_after s (Idle g) = s.jobs
 jobs_after s (Next g k i o d) = jobs_with s (g - 1) (k - 1) (with_operation (job_of s (g - 1) (k - 1)))
+jobs_after s _ = s.jobs
 
 -- the tallies after a slot
 abbrev pub tallies_after : State → Work → List Tally
-tallies_after s Nothing = s.tallies
-tallies_after s (Fixed p o) = s.tallies
 tallies_after s (Idle g) = slice_set s.tallies (g - 1) (with_idle (tally_of s (g - 1)))
 tallies_after s (Next g k i o d) =
     slice_set s.tallies (g - 1) (with_used (job_of s (g - 1) (k - 1)) (tally_of s (g - 1)))
+tallies_after s _ = s.tallies
 
 -- why a slot is refused, if it is
 abbrev pub slot_refusal : State → Option Decline
@@ -100,7 +102,7 @@ slot_refusal s = if nat_lt s.passed s.plan.session then None else Some SessionEn
 abbrev pub next_entry : State → Meaning → Entry
 next_entry s m = record { slot = s.passed; event = event_of m (next_work s) }
 
--- the rig after the next slot
+-- the state after the next slot
 abbrev pub with_slot : State → State
 with_slot s =
     let w = next_work s in

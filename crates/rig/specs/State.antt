@@ -1,4 +1,4 @@
--- What a loaded rig holds apart from its device.
+-- What a loaded rig holds apart from its device. Guests and tasks count from 0 here.
 use Rattle.std.specs.Prelude.{ℕ, ◌+◌, Bool, false, List, [], map, replicate, slice_index_or, slice_set}
 use Rattle.std.specs.List.{range_with_len}
 use Rattle.waiting.specs.declared.Rank.{Rank}

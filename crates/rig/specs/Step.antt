@@ -79,17 +79,17 @@ effect s slot = record {
 unfoldable pub answer_in : Meaning → State → PlanCall → NumberedAnswer
 answer_in m s c = answer_unless (effect s c).refusal (reply_numbers ((effect s c).reply m))
 
--- its state after the call
+-- the state of a loaded rig after a call
 unfoldable pub state_after : State → PlanCall → State
 state_after s c = change_unless (effect s c).refusal (effect s c).state s
 
--- what its device means after the call
+-- what the device of a loaded rig means after a call
 unfoldable pub meaning_after : Meaning → State → PlanCall → Meaning
 meaning_after m s c = change_unless (effect s c).refusal ((effect s c).device m) m
 
 -- what a load of a fresh rig comes to: the plan, of which each value that is written is a number of 16 bits, is
 -- accepted for the device's registers and loaded; or it is declined by these three numbers, and the rig stays fresh.
--- The values of every setup are such numbers, so that this refuses none
+-- The values of a setup have 16 bits, so each plan of a setup comes to one of the two
 unfoldable pub IsLoad : Meaning → Plan → NumberedAnswer → RigState → Type 0
 IsLoad m p (Ok r) after =
     (r ≡ reply_numbers Loaded) × Accepted p (register_count m) × ValuesFit p × (after ≡ loaded_rig m (state_at_load p))

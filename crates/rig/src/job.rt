@@ -3,6 +3,7 @@ ghost use Rattle.std.specs.Prelude.{◌≡◌, ◌<◌, false};
 ghost use Rattle.rig.specs.State.{is_pending, job_rank};
 ghost use Rattle.rig.specs.Slot.{completes, with_operation};
 
+use setups::HIGHEST_COST;
 use waiting::{Rank, Waits};
 
 /// The job of a task, or what is left of its last one.
@@ -39,7 +40,7 @@ impl Job {
 
     /// Whether one more operation makes this job complete.
     pub(crate) fn completes(&self) -> bool
-        requires { self.now.done < 255 }
+        requires { self.now.done < HIGHEST_COST }
         ensures { result ≡ completes self.now }
     {
         self.size <= self.done + 1
@@ -47,7 +48,7 @@ impl Job {
 
     /// This job with one more operation done. After its last it is no longer pending.
     pub(crate) fn with_operation(self) -> Job
-        requires { self.done < 255 }
+        requires { self.done < HIGHEST_COST }
         ensures { result ≡ with_operation self }
     {
         Job {

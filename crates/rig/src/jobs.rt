@@ -1,8 +1,7 @@
 //! The jobs of all tasks.
 ghost use Rattle.std.specs.Prelude.{◌≡◌, ◌<◌, replicate, slice_set, MatchOption};
 ghost use Rattle.rig.specs.State.{row_at_start, rows_with};
-ghost use Rattle.rig.specs.Slot.{first_job};
-ghost use Rattle.rig.specs.Invariants.{WaitsAt};
+ghost use Rattle.rig.specs.Slot.{first_job, WaitsAt};
 
 use crate::job::Job;
 use setups::{MOST_GUEST_TASKS, MOST_GUESTS};
@@ -18,16 +17,7 @@ pub(crate) type Jobs = [Row; MOST_GUESTS];
 fn row_at_start() -> Row
     ensures { result ≡ row_at_start }
 {
-    [
-        Job::at_start(1),
-        Job::at_start(2),
-        Job::at_start(3),
-        Job::at_start(4),
-        Job::at_start(5),
-        Job::at_start(6),
-        Job::at_start(7),
-        Job::at_start(8),
-    ]
+    [1, 2, 3, 4, 5, 6, 7, 8].map(Job::at_start)
 }
 
 /// The jobs of all tasks before the first one.

@@ -1,6 +1,7 @@
 //! The rig: a device that guests share, slot by slot.
 #![tactic(auto)]
 
+mod after_slot;
 mod call;
 mod job;
 mod jobs;
@@ -9,7 +10,6 @@ mod perform;
 mod reply;
 mod requests;
 mod rig;
-mod slot_tables;
 mod slots;
 mod tables;
 mod tally;

@@ -1,7 +1,7 @@
 //! Which task and which operation of a setup a number names. Guests, tasks and operations count from 0 here, fixed
 //! operations from 1.
-ghost use Rattle.std.specs.Prelude.{◌≡◌, ◌+◌, ◌<◌, ◌≤◌, length, sum_by};
-ghost use Rattle.setups.specs.Plan.{plan_of, guest_at, task_start, cost_of, task_count_of, operation_at};
+ghost use Rattle.std.specs.Prelude.{◌≡◌, ◌+◌, ◌<◌, ◌≤◌, length};
+ghost use Rattle.setups.specs.Plan.{plan_of, guest_at, task_start, operation_at};
 ghost use Rattle.setups.specs.Limits.{TaskOk};
 ghost use Rattle.schedule.specs.declared.turn.Turn.TheVariants.{Fixed};
 ghost use Rattle.schedule.specs.Session.{IsTurnOf};

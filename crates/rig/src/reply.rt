@@ -1,6 +1,7 @@
 //! Replies, and their numbers.
-ghost use Rattle.std.specs.Prelude.{◌≡◌};
-ghost use Rattle.rig.specs.Replies.{entry_numbers, reply_numbers, SaysWhichReply};
+ghost use Rattle.std.specs.Prelude.{◌≡◌, Ok, option_map};
+ghost use Rattle.journal.specs.Entries.{fields_of};
+ghost use Rattle.rig.specs.Replies.{entry_numbers, reply_numbers, entry_of_reply, entry_of, SaysWhichReply};
 
 use crate::tally::Tally;
 use decline::Decline;
@@ -27,10 +28,15 @@ pub type Answer = Result<Reply, Decline>;
 // The most numbers that a reply has.
 const NUMBERS: usize = 9;
 
+// The case of a reply with an entry.
+const PASSED: u8 = 5;
+
 /// A reply as numbers: which case it is, and those of the case in order; 0 where there is none.
 #[derive(Clone, Copy, PartialEq, Eq, Debug)]
 pub struct ReplyNumbers {
+    /// Which case it is, 1 to 5.
     pub case: u8,
+    /// The numbers of the case, in order.
     pub numbers: [u32; NUMBERS],
 }
 
@@ -71,8 +77,19 @@ impl Reply {
                 } = tally;
                 (4, [granted, used, idle, finished, 0, 0, 0, 0, 0])
             }
-            Reply::Passed { entry } => (5, entry_numbers(&entry)),
+            Reply::Passed { entry } => (PASSED, entry_numbers(&entry)),
         };
         ReplyNumbers { case, numbers }
+    }
+
+    /// The entry of the slot that passed, if one did.
+    pub fn entry(&self) -> Option<Entry>
+        ensures value { result ≡ entry_of_reply self.now }
+        ensures fields { option_map fields_of result ≡ entry_of (Ok (reply_numbers self.now)) }
+    {
+        match *self {
+            Reply::Passed { entry } => Some(entry),
+            _ => None,
+        }
     }
 }

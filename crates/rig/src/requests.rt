@@ -2,10 +2,10 @@
 ghost use Rattle.std.specs.Prelude.{◌≡◌, ◌-◌, ◌<◌, ◌≤◌, IfOk};
 ghost use Rattle.setups.specs.Plan.{plan_of};
 ghost use Rattle.rig.specs.State.{job_at, rows_with};
-ghost use Rattle.rig.specs.Invariants.{PlanInvariant, JobsInvariant, state_of_jobs, AnswersUnless};
+ghost use Rattle.rig.specs.Invariants.{PlanInvariant, JobsInvariant};
 ghost use Rattle.rig.specs.Parts.{is_guest, is_task};
 ghost use Rattle.rig.specs.Requests.{release_refusal, deadline_from_now, job_from_now};
-ghost use Rattle.rig.specs.Requests.{withdraw_refusal, done_of, withdrawn_job};
+ghost use Rattle.rig.specs.Requests.{withdraw_refusal, done_of, withdrawn_job, state_of_jobs, AnswersUnless};
 
 use crate::job::Job;
 use crate::jobs::{Jobs, rows_with};

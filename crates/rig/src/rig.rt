@@ -5,7 +5,7 @@ ghost use Rattle.device.specs.Meaning.{register_count};
 ghost use Rattle.setups.specs.Plan.{plan_of};
 ghost use Rattle.rig.specs.declared.reply.Reply.TheVariants.{Loaded, Released, Withdrawn, Told, Passed};
 ghost use Rattle.rig.specs.Calls.{plan_call, load, release, withdraw, question, slot};
-ghost use Rattle.rig.specs.Replies.{replied, answer_numbers};
+ghost use Rattle.rig.specs.Replies.{answer_by, answer_numbers};
 ghost use Rattle.rig.specs.Step.{fresh_rig, IsLoad, IsStep};
 ghost use Rattle.rig.specs.Abstraction.{state_of};
 
@@ -22,9 +22,9 @@ use journal::{Entry, Event};
 
 /// A device that guests share, slot by slot, and the session that is loaded, if one is.
 ///
-/// Only `load`, `release`, `withdraw` and `slot` change it, and `question` asks. Guests and tasks are numbered from 1,
-/// and whatever number is given is answered. A call that is refused changes nothing: the rig holds what it held, and
-/// the device means what it meant.
+/// Only `load`, `release`, `withdraw`, `slot` and `make`, which makes one of the five calls, change it, and `question`
+/// asks. Guests and tasks are numbered from 1, and whatever number is given is answered. A call that is refused changes
+/// nothing: the rig holds what it held, and the device means what it meant.
 #[derive(Drop)]
 pub struct Rig<D> {
     pub(crate) device: D,
@@ -32,7 +32,7 @@ pub struct Rig<D> {
 }
 
 impl<D: Device> Rig<D> {
-    /// A fresh rig around a device, with nothing loaded. The device is not touched.
+    /// A fresh rig around a device, with nothing loaded. The device means what it meant.
     pub fn new(device: D) -> Rig<D>
         ensures { state_of D.meaning result ≡ fresh_rig (D.meaning device) }
     {
@@ -62,7 +62,7 @@ impl<D: Device> Rig<D> {
     #[tactic(auto, unfolding(crate::specs::Step::answer_in, crate::specs::Step::state_after, crate::specs::Step::meaning_after))]
     pub fn load(&mut self, setup: &Setup<'_>) -> Result<(), Decline>
         ensures { IsStep (state_of D.meaning self.old) (load (plan_of setup.now))
-            (replied (λ _. Loaded) (by_numbers result)) (state_of D.meaning self.new) }
+            (answer_by (λ _. Loaded) (by_numbers result)) (state_of D.meaning self.new) }
     {
         if self.loaded.is_some() {
             return Err(Decline::AlreadyLoaded);
@@ -76,7 +76,7 @@ impl<D: Device> Rig<D> {
     fn load_fresh(&mut self, setup: &Setup<'_>, registers: u32) -> Result<(), Decline>
         requires nothing_loaded { self.old.loaded ≡ None }
         requires registers { registers ≡ register_count (D.meaning self.old.device) }
-        ensures { IsLoad (D.meaning self.old.device) (plan_of setup.now) (replied (λ _. Loaded) (by_numbers result))
+        ensures { IsLoad (D.meaning self.old.device) (plan_of setup.now) (answer_by (λ _. Loaded) (by_numbers result))
             (state_of D.meaning self.new) }
     {
         self.loaded = Some(Tables::new(setup, registers)?);
@@ -92,7 +92,7 @@ impl<D: Device> Rig<D> {
     #[tactic(auto, using(crate::proofs::Steps::release_step))]
     pub fn release(&mut self, guest: u32, task: u32, operations: u32) -> Result<u32, Decline>
         ensures { IsStep (state_of D.meaning self.old) (release guest task operations)
-            (replied Released (by_numbers result)) (state_of D.meaning self.new) }
+            (answer_by Released (by_numbers result)) (state_of D.meaning self.new) }
     {
         let Some(tables) = &mut self.loaded else {
             return Err(Decline::NotLoaded);
@@ -107,7 +107,7 @@ impl<D: Device> Rig<D> {
     /// the task has no pending job.
     #[tactic(auto, unfolding(crate::specs::Step::answer_in, crate::specs::Step::state_after, crate::specs::Step::meaning_after))]
     pub fn withdraw(&mut self, guest: u32, task: u32) -> Result<u8, Decline>
-        ensures { IsStep (state_of D.meaning self.old) (withdraw guest task) (replied Withdrawn (by_numbers result))
+        ensures { IsStep (state_of D.meaning self.old) (withdraw guest task) (answer_by Withdrawn (by_numbers result))
             (state_of D.meaning self.new) }
     {
         let Some(tables) = &mut self.loaded else {
@@ -121,7 +121,7 @@ impl<D: Device> Rig<D> {
     /// It refuses with `NotLoaded` if no setup is loaded, and `NotFound` if there is no such guest.
     #[tactic(auto, unfolding(crate::specs::Step::answer_in, crate::specs::Step::state_after, crate::specs::Step::meaning_after))]
     pub fn question(&self, guest: u32) -> Result<Tally, Decline>
-        ensures { IsStep (state_of D.meaning self.now) (question guest) (replied Told (by_numbers result))
+        ensures { IsStep (state_of D.meaning self.now) (question guest) (answer_by Told (by_numbers result))
             (state_of D.meaning self.now) }
     {
         let Some(tables) = &self.loaded else {
@@ -136,7 +136,7 @@ impl<D: Device> Rig<D> {
     /// It refuses with `NotLoaded` if no setup is loaded, and `SessionEnd` when all slots of the session have passed.
     #[tactic(auto, unfolding(crate::specs::Step::answer_in, crate::specs::Step::state_after, crate::specs::Step::meaning_after))]
     pub fn slot(&mut self) -> Result<Entry, Decline>
-        ensures { IsStep (state_of D.meaning self.old) slot (replied Passed (by_numbers result))
+        ensures { IsStep (state_of D.meaning self.old) slot (answer_by Passed (by_numbers result))
             (state_of D.meaning self.new) }
     {
         let Some(tables) = &mut self.loaded else {

@@ -1,5 +1,5 @@
 //! What a loaded rig holds.
-ghost use Rattle.std.specs.Prelude.{◌≡◌, ◌-◌, ◌≤◌, take, length, IfOk, MatchResult};
+ghost use Rattle.std.specs.Prelude.{◌≡◌, ◌-◌, ◌≤◌, take, IfOk, MatchResult};
 ghost use Rattle.decline.specs.Refusals.{by_numbers};
 ghost use Rattle.setups.specs.Plan.{plan_of, ValuesFit};
 ghost use Rattle.admission.specs.Verdict.{Accepted, Declined};
@@ -8,12 +8,12 @@ ghost use Rattle.rig.specs.Requests.{release_refusal, deadline_from_now, with_re
 ghost use Rattle.rig.specs.Requests.{withdraw_refusal, done_of, with_withdrawal, question_refusal};
 ghost use Rattle.rig.specs.Slot.{slot_refusal, next_work, with_slot};
 ghost use Rattle.rig.specs.declared.reply.Reply.TheVariants.{Released, Withdrawn, Told};
-ghost use Rattle.rig.specs.Replies.{reply_numbers, replied};
+ghost use Rattle.rig.specs.Replies.{reply_numbers, answer_by};
 ghost use Rattle.rig.specs.Step.{answer_unless, change_unless};
 
+use crate::after_slot::AfterSlot;
 use crate::jobs::{JobTable, jobs_at_start};
 use crate::requests::{is_guest, release_with, withdraw_with};
-use crate::slot_tables::SlotTables;
 use crate::slots::pass;
 use crate::tally::{NO_TALLY, Tallies, Tally};
 use crate::work::Work;
@@ -54,7 +54,7 @@ impl Model for Tables {
     ghost use Rattle.std.specs.Prelude.{◌≤◌, take};
     ghost use Rattle.setups.specs.declared.limits.TheConstants.{MOST_FIXED_OPERATIONS, MOST_TASKS, MOST_OPERATIONS};
     ghost use Rattle.rig.specs.State.{State, state_by_parts};
-    ghost use Rattle.rig.specs.Invariants.{IsWithinSession, StateInvariant};
+    ghost use Rattle.rig.specs.Invariants.{SessionInvariant, StateInvariant};
 
     ghost Value = { State };
 
@@ -62,7 +62,7 @@ impl Model for Tables {
         (take t.operation_count t.operations) t.jobs.rows t.tallies };
 
     ghost invariant = { λ t. (t.fixed_count ≤ MOST_FIXED_OPERATIONS) × (t.task_count ≤ MOST_TASKS)
-        × (t.operation_count ≤ MOST_OPERATIONS) × IsWithinSession t.servers
+        × (t.operation_count ≤ MOST_OPERATIONS) × SessionInvariant t.servers
         × StateInvariant (state_by_parts t.servers (take t.fixed_count t.fixed) (take t.task_count t.tasks)
         (take t.operation_count t.operations) t.jobs.rows t.tallies) };
 }
@@ -114,7 +114,7 @@ impl Tables {
 
     /// Releases a job, and answers its deadline.
     pub(crate) fn release(&mut self, guest: u32, task: u32, operations: u32) -> Result<u32, Decline>
-        ensures answer { replied Released (by_numbers result)
+        ensures answer { answer_by Released (by_numbers result)
             ≡ answer_unless (release_refusal self.old guest task operations)
             (reply_numbers (Released (deadline_from_now self.old guest task))) }
         ensures after { self.new ≡ change_unless (release_refusal self.old guest task operations)
@@ -135,7 +135,7 @@ impl Tables {
 
     /// Withdraws a job, and answers how many of its operations had their slot.
     pub(crate) fn withdraw(&mut self, guest: u32, task: u32) -> Result<u8, Decline>
-        ensures answer { replied Withdrawn (by_numbers result)
+        ensures answer { answer_by Withdrawn (by_numbers result)
             ≡ answer_unless (withdraw_refusal self.old guest task)
             (reply_numbers (Withdrawn (done_of self.old guest task))) }
         ensures after { self.new
@@ -149,7 +149,7 @@ impl Tables {
 
     /// The tally of a guest.
     pub(crate) fn question(&self, guest: u32) -> Result<Tally, Decline>
-        ensures { replied Told (by_numbers result)
+        ensures { answer_by Told (by_numbers result)
             ≡ answer_unless (question_refusal self.now guest) (reply_numbers (Told (tally_of self.now (guest - 1)))) }
     {
         if !is_guest(&self.setup(), guest) {
@@ -167,7 +167,7 @@ impl Tables {
         let slot = self.servers.passed();
         let turn = self.servers.pass_slot()?;
         let setup = self.setup();
-        let SlotTables {
+        let AfterSlot {
             work,
             jobs,
             tallies,

@@ -1,10 +1,10 @@
-//! What a guest had since load.
+//! Tallies of guests.
 ghost use Rattle.std.specs.Prelude.{◌≡◌, ◌+◌, ◌<◌};
 ghost use Rattle.rig.specs.Slot.{with_idle, with_used};
 ghost use Rattle.rig.specs.Invariants.{TallyInvariant};
 
 use crate::job::Job;
-use setups::{MOST_GUESTS, MOST_SLOTS};
+use setups::{HIGHEST_COST, MOST_GUESTS, MOST_SLOTS};
 
 /// What a guest had since load.
 #[derive(Clone, Copy, PartialEq, Eq, Debug)]
@@ -48,7 +48,7 @@ impl Tally {
     /// This tally with one more slot used, by a job that it may finish.
     pub(crate) fn with_used(self, passed: u32, job: &Job) -> Tally
         requires passed { passed < MOST_SLOTS }
-        requires done { job.now.done < 255 }
+        requires done { job.now.done < HIGHEST_COST }
         requires invariant { TallyInvariant passed self }
         ensures tally { result ≡ with_used job.now self }
         ensures invariant { TallyInvariant (passed + 1) result }

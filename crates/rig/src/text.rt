@@ -80,7 +80,9 @@ impl fmt::Display for Reply {
 /// A call and what it was answered: the reply, or the refusal and its sentence.
 #[derive(Clone, Copy, Debug, Drop)]
 pub struct AnswerLine<'a> {
+    /// The call.
     pub call: Call<'a>,
+    /// What it was answered.
     pub answer: Answer,
 }
 

@@ -1,4 +1,4 @@
-//! What a slot is for.
+//! The work of a slot.
 use admission::Operation;
 
 /// What a slot is for. Fixed operations, guests, tasks and the operations of a job are numbered from 1.

@@ -20,22 +20,22 @@ use Rattle.schedule.proofs.Counts.{grant_at, whole_granted}
 use Rattle.rig.specs.State.{State, state_at_load, jobs_of}
 use Rattle.rig.specs.Slot.{first_job, granted_work, work_of, event_of, next_entry}
 use Rattle.runs.specs.Traces.{Exchange}
-use Rattle.runs.specs.Entries.{entries, is_between, is_grant, grants_among}
+use Rattle.runs.specs.TraceEntries.{entries, is_between, is_grant, grants_among}
 use Rattle.runs.specs.Laws.{FullBudgets}
-use Rattle.runs.proofs.Slots.{grant_in, entry_at}
+use Rattle.runs.proofs.JobSlots.{grant_in, event_entry}
 use Rattle.runs.proofs.Loaded.{AnswersOf}
-use Rattle.runs.proofs.Entries.{HoldsFrom, holds_of_entries, next_entry_slot}
+use Rattle.runs.proofs.TraceEntries.{HoldsFrom, holds_of_entries, next_entry_slot}
 
 -- the entry of a slot that is granted is a grant to the same guest
 entry_granted : (n : ℕ) (m : Meaning) (s : State) (g h : ℕ) (r : Option ℕ)
-    → is_grant g (fields_of (entry_at n (event_of m (granted_work s h r)))) ≡ (h + 1 == g)
+    → is_grant g (fields_of (event_entry n (event_of m (granted_work s h r)))) ≡ (h + 1 == g)
 entry_granted n m s g h None = refl
 entry_granted n m s g h (Some k) = refl
 
 -- the entry of a slot is a grant to a guest exactly if its turn is
 entry_of_turn : (n : ℕ) (m : Meaning) (s : State) (g : ℕ) (table : List ℕ) (gs : List Guest) (t : Turn)
     → IsTurnOf table gs t
-    → is_grant g (fields_of (entry_at n (event_of m (work_of s t)))) ≡ is_granted g t
+    → is_grant g (fields_of (event_entry n (event_of m (work_of s t)))) ≡ is_granted g t
 entry_of_turn n m s g table gs Unassigned whose = refl
 entry_of_turn n m s g table gs (Fixed p) whose = refl
 entry_of_turn n m s g table gs (Granted h) (from, to) =
@@ -64,23 +64,23 @@ grants_by_turns m s xs g all =
     )) m s xs refl all
 
 -- n, or whichever of a and b is nearer to it where it is not between them
-abbrev within : ℕ → ℕ → ℕ → ℕ
-within a b n = min b (max a n)
+abbrev clamp : ℕ → ℕ → ℕ → ℕ
+clamp a b n = min b (max a n)
 
 -- one value more, which counts if its place is from a to before b
-within_next : (f : ℕ → ℕ) (a b n : ℕ) → a ≤ b
-    → cond (nat_le a n && nat_lt n b) (f n) 0 + sum_below f (within a b n) ≡ sum_below f (within a b (suc n))
-within_next f a b n le =
+clamp_next : (f : ℕ → ℕ) (a b n : ℕ) → a ≤ b
+    → cond (nat_le a n && nat_lt n b) (f n) 0 + sum_below f (clamp a b n) ≡ sum_below f (clamp a b (suc n))
+clamp_next f a b n le =
     elim (dec_lt n a) [
       | yes early ↦
-          (let same : within a b (suc n) ≡ within a b n = omega (arith, early) in
+          (let same : clamp a b (suc n) ≡ clamp a b n = omega (arith, early) in
           let out : nat_le a n && nat_lt n b ≡ false = grind (arith, common_steps) in
           omega (arith, ap (λ u. cond u (f n) 0) out, ap (sum_below f) same))
       | no begun ↦
           elim (dec_lt n b) [
             | yes in_time ↦
-                (let this : within a b n ≡ n = omega (arith, begun, in_time) in
-                let next : within a b (suc n) ≡ suc n = omega (arith, begun, in_time) in
+                (let this : clamp a b n ≡ n = omega (arith, begun, in_time) in
+                let next : clamp a b (suc n) ≡ suc n = omega (arith, begun, in_time) in
                 let inside : nat_le a n && nat_lt n b ≡ true = grind (arith, common_steps) in
                 omega (
                   arith,
@@ -90,7 +90,7 @@ within_next f a b n le =
                   sum_below_next f n,
                 ))
             | no late ↦
-                (let same : within a b (suc n) ≡ within a b n = omega (arith, begun, late) in
+                (let same : clamp a b (suc n) ≡ clamp a b n = omega (arith, begun, late) in
                 let out : nat_le a n && nat_lt n b ≡ false = grind (arith, common_steps) in
                 omega (arith, ap (λ u. cond u (f n) 0) out, ap (sum_below f) same))
           ]
@@ -105,12 +105,12 @@ one_more t g e es = grind (arith, common_steps)
 -- the grants to guest g among successive entries, of those from slot a to before slot b,
 -- are the sum of f over these slots
 pub grants_between : (f : ℕ → ℕ) (g a b n : ℕ) (es : List Fields) → a ≤ b → HoldsFrom (GrantsBy f g) n es
-    → length (grants_among g (filter (is_between a b) es)) + sum_below f (within a b n)
-    ≡ sum_below f (within a b (n + length es))
+    → length (grants_among g (filter (is_between a b) es)) + sum_below f (clamp a b n)
+    ≡ sum_below f (clamp a b (n + length es))
 unfolding HoldsFrom
 grants_between f g a b n [] le all =
     let same : n ≡ n + 0 = omega arith in
-    omega (arith, ap (λ k. sum_below f (within a b k)) same)
+    omega (arith, ap (λ k. sum_below f (clamp a b k)) same)
 grants_between f g a b n (e ∷ es) le ((is, gives), rest) =
     let same : suc n + length es ≡ n + length (e ∷ es) = omega arith in
     omega (
@@ -118,9 +118,9 @@ grants_between f g a b n (e ∷ es) le ((is, gives), rest) =
       one_more (is_between a b) g e es,
       ap (λ k. cond (is_between a b e) k 0) gives,
       ap (λ k. cond (nat_le a k && nat_lt k b) (f n) 0) is,
-      within_next f a b n le,
+      clamp_next f a b n le,
       grants_between f g a b (suc n) es le rest,
-      ap (λ k. sum_below f (within a b k)) same,
+      ap (λ k. sum_below f (clamp a b k)) same,
     )
 
 -- after a load of an accepted plan each guest has its full budget in each of its periods
@@ -131,8 +131,8 @@ full_budgets p registers ok m xs all i q l h =
     let period = (guest_at p.guests i).period in
     let a = q * period in
     let b = (q + 1) * period in
-    let start : within a b 0 ≡ a = omega arith in
-    let end : within a b (0 + length (entries xs)) ≡ b = omega (arith, h) in
+    let start : clamp a b 0 ≡ a = omega arith in
+    let end : clamp a b (0 + length (entries xs)) ≡ b = omega (arith, h) in
     omega (
       arith,
       grants_between (grant_at p registers ok i) (i + 1) a b 0 (entries xs) (omega arith)

@@ -14,23 +14,24 @@ use Rattle.admission.specs.Verdict.{Accepted}
 use Rattle.rig.specs.Parts.{task_of, operations_of}
 use Rattle.rig.specs.State.{State, state_at_load, job_of}
 use Rattle.rig.specs.Requests.{release_refusal, deadline_from_now, job_from_now, with_release}
-use Rattle.rig.proofs.Places.{task_ok}
+use Rattle.rig.proofs.PlanPlaces.{task_ok}
 use Rattle.rig.specs.Step.{answer_unless, change_unless}
 use Rattle.rig.specs.declared.reply.Reply.TheVariants.{Released}
 use Rattle.rig.specs.Calls.{release}
 use Rattle.runs.specs.Traces.{Exchange, exchange}
-use Rattle.runs.specs.Entries.{entries, slots_passed, is_between, is_use_by}
+use Rattle.runs.specs.TraceEntries.{entries, slots_passed, is_between, is_use_by}
 use Rattle.rig.specs.Replies.{NumberedAnswer, reply_numbers}
-use Rattle.runs.specs.Laws.{released, InOrder, WithdrawnBefore, MeetsDeadlines}
+use Rattle.runs.specs.Laws.{release_answer, InOrder, WithdrawnBefore, MeetsDeadlines}
 use Rattle.rig.specs.Step.{answer_in, state_after, meaning_after}
 use Rattle.runs.proofs.Loaded.{state_end, device_end, AnswersOf}
 use Rattle.runs.proofs.Effects.{kept_after}
-use Rattle.runs.proofs.Entries.{entries_append, slots_passed_append, answers_around, passed_end, slot_at}
-use Rattle.runs.proofs.Requests.{job_put, Started, started, releasable}
+use Rattle.runs.proofs.TraceEntries.{entries_append, slots_passed_append, answers_around, passed_end, slot_at}
+use Rattle.runs.proofs.JobRequests.{job_put, StartsJob, starts_job, releasable}
 use Rattle.runs.proofs.Ready.{Ready, ready_at_load, ready_end}
 use Rattle.runs.proofs.ToGo.{to_go, to_go_started}
 use Rattle.runs.proofs.JobService.{own_tasks, guest_place}
-use Rattle.runs.proofs.Order.{filter_none, uses, UsedFor, InOrderFrom, Running, EndsWell, reached_after, ends_well}
+use Rattle.runs.proofs.Order.{filter_none, uses, UsedFor, InOrderFrom, BeforeDeadline, EndsWell, reachable_after}
+use Rattle.runs.proofs.Order.{ends_well}
 
 -- the first number of an answer that is a reply
 first_number : NumberedAnswer → ℕ
@@ -38,7 +39,7 @@ first_number (Ok r) = slice_index r.numbers 0
 first_number (Err n) = 0
 
 -- a release that is answered with a deadline is not refused, and the deadline is this
-accepted : (d x : ℕ) (r : Option Decline) → released d ≡ answer_unless r (reply_numbers (Released x))
+accepted : (d x : ℕ) (r : Option Decline) → release_answer d ≡ answer_unless r (reply_numbers (Released x))
     → (r ≡ None) × (d ≡ x)
 accepted d x None said = (refl, unfold first_number in ap first_number said)
 accepted d x (Some e) said = absurd cc
@@ -71,7 +72,7 @@ in_order os n es from = record {
 
 -- a release that is not refused starts its job
 released_job : (p : Plan) (s : State) (g k n : ℕ) → Ready p s → g - 1 < 16 → k - 1 < 8 → release_refusal s g k n ≡ None
-    → Started p s (g - 1) (k - 1) n (job_of (state_after s (release g k n)) (g - 1) (k - 1))
+    → StartsJob p s (g - 1) (k - 1) n (job_of (state_after s (release g k n)) (g - 1) (k - 1))
 unfolding state_after
 released_job p s g k n ready gl kl none =
     let is : job_of (state_after s (release g k n)) (g - 1) (k - 1) ≡ job_from_now s g k n =
@@ -79,7 +80,7 @@ released_job p s g k n ready gl kl none =
     ∙ ⊎_elim (λ here. here.2) (λ apart. absurd (apart.0 (refl, refl)))
     (job_put s (g - 1) (k - 1) (job_from_now s g k n) (g - 1) (k - 1) (omega (arith, gl, ready.rows.wide))
     (omega (arith, kl, ready.rows.deep (g - 1) gl))) in
-    subst₂ (λ q j. Started q s (g - 1) (k - 1) n j) ready.plan (sym is) (started s g k n (releasable s g k n none))
+    subst₂ (λ q j. StartsJob q s (g - 1) (k - 1) n j) ready.plan (sym is) (starts_job s g k n (releasable s g k n none))
 
 -- the deadlines of a run of a rig that was loaded with an accepted plan are kept
 pub deadlines_kept_of : (p : Plan) (registers : ℕ) → Accepted p registers → (m : Meaning) (xs : List Exchange)
@@ -87,7 +88,7 @@ pub deadlines_kept_of : (p : Plan) (registers : ℕ) → Accepted p registers �
 unfolding MeetsDeadlines answer_in entries
 deadlines_kept_of p registers ok m xs all g k n d past later is reach =
     let s = state_end (state_at_load p) past in
-    let x = exchange (release g k n) (released d) in
+    let x = exchange (release g k n) (release_answer d) in
     let s′ = state_after s x.call in
     let a = slots_passed past in
     let (front, said, back) = answers_around m (state_at_load p) xs past x later all is in
@@ -111,7 +112,7 @@ deadlines_kept_of p registers ok m xs all g k n d past later is reach =
     let now : s.passed ≡ a = omega (arith, passed_end m (state_at_load p) past front) in
     let still : s′.passed ≡ s.passed = kept_after (λ t. t.passed) s (release g k n) refl in
     let task : TaskOk (task_of p (g - 1) (k - 1)) = task_ok p registers ok (g - 1) (k - 1) gl kl in
-    let run : Running (g - 1) (k - 1) a d s′ = record {
+    let run : BeforeDeadline (g - 1) (k - 1) a d s′ = record {
       due = omega (arith, job.deadline, until);
       alone = omega (arith, job.next_start, until, task.apart);
       begun = omega (arith, now, still);
@@ -122,7 +123,7 @@ deadlines_kept_of p registers ok m xs all g k n d past later is reach =
     let end : EndsWell p (g - 1) (k - 1) a d s′ later =
     ends_well p registers ok (g - 1) (k - 1) a d gl kl g16 k8
     (meaning_after (device_end m (state_at_load p) past) s x.call) s′ later
-    (reached_after p s x (past, refl)) back run far in
+    (reachable_after p s x (past, refl)) back run far in
     let gi : g - 1 + 1 ≡ g = omega (arith, may.known.guest_from) in
     let ki : k - 1 + 1 ≡ k = omega (arith, may.known.task_from) in
     let same : uses g k a d (entries xs) ≡ uses g k a d (entries later) =

@@ -1,39 +1,111 @@
 -- What the calls of a loaded rig do, by their kinds.
-use Rattle.std.proofs.Common.{◌≡◌, refl, ap, ◌∙◌, ℕ, ◌⊎◌, inl, inr, Option, Some, None, Ok}
+use Rattle.std.proofs.Common.{◌≡◌, refl, ap, ◌∙◌, ℕ, ◌-◌, ◌⊎◌, inl, inr, Option, Some, None, Ok, get_or, arith}
 use Rattle.decline.specs.declared.Decline.{Decline}
 use Rattle.journal.specs.Entries.{fields_of}
 use Rattle.device.specs.Meaning.{Meaning}
-use Rattle.rig.specs.declared.reply.Reply.TheVariants.{Passed}
-use Rattle.rig.specs.Calls.{PlanCall, load, release, withdraw, question, slot}
+use Rattle.rig.specs.declared.job.Job.{Job}
+use Rattle.rig.specs.declared.reply.Reply.TheVariants.{Withdrawn, Told, Passed}
+use Rattle.rig.specs.Calls.{PlanCall, load, release, withdraw, question, slot, guest_of}
+use Rattle.rig.specs.Invariants.{JobInvariant}
 use Rattle.rig.specs.Replies.{NumberedAnswer, reply_numbers, entry_of}
+use Rattle.rig.specs.Requests.{with_job, job_from_now, withdrawn_job}
 use Rattle.rig.specs.Slot.{slot_refusal, next_entry, next_work, device_after, with_slot}
-use Rattle.rig.specs.State.{State}
-use Rattle.runs.specs.Entries.{size_by}
+use Rattle.rig.specs.State.{State, no_job, jobs_of, job_of, tally_of}
 use Rattle.rig.specs.Step.{answer_unless, change_unless, effect, answer_in, state_after, meaning_after}
+use Rattle.runs.proofs.JobRequests.{NamesTask, releasable, withdrawable}
 
--- a call changes nothing, brings no entry and is no release
-pub record ChangesNothing (s : State) (c : PlanCall) : Type 0 where
-  pub state : (effect s c).state ≡ s
-  pub device : (m : Meaning) → (effect s c).device m ≡ m
-  pub no_entry : (m : Meaning) → entry_of (Ok (reply_numbers ((effect s c).reply m))) ≡ None
-  pub no_release : (g k n : ℕ) → size_by g k n c ≡ n
+-- two states are the same to guest g, from 1: in their plan, in the slots passed, and in its jobs and its tally
+pub record SameTo (g : ℕ) (s t : State) : Type 0 where
+  pub plan : s.plan ≡ t.plan
+  pub passed : s.passed ≡ t.passed
+  pub row : jobs_of s (g - 1) ≡ jobs_of t (g - 1)
+  pub tally : tally_of s (g - 1) ≡ tally_of t (g - 1)
 
--- a call is a slot, a release or a withdrawal, or is quiet
-pub data Kind (s : State) : PlanCall → Type 0 where
-  slots : Kind s slot
-  releases : (g k n : ℕ) → Kind s (release g k n)
-  withdraws : (g k : ℕ) → Kind s (withdraw g k)
-  keeps : (c : PlanCall) → ChangesNothing s c → Kind s c
+-- each of its jobs is the same in both
+same_job_of : (g k : ℕ) (s t : State) → SameTo g s t → job_of s (g - 1) k ≡ job_of t (g - 1) k
+same_job_of g k s t same = ap (λ row. get_or row k no_job) same.row
+
+-- a call is refused alike in two states, and has the same reply
+pub record AnsweredAlike (c : PlanCall) (s t : State) : Type 0 where
+  pub refusal : (effect s c).refusal ≡ (effect t c).refusal
+  pub reply : (m n : Meaning) → (effect s c).reply m ≡ (effect t c).reply n
+
+-- a call is answered alike in states that are the same to this guest, if it names one
+abbrev pub AnsweredByGuest : PlanCall → Option ℕ → Type 0
+AnsweredByGuest c None = Unit {0}
+AnsweredByGuest c (Some g) = (s t : State) → SameTo g s t → AnsweredAlike c s t
+
+-- a call changes nothing, brings no entry, and is answered by what the guest sees that it names
+pub record ChangesNothing (c : PlanCall) : Type 0 where
+  pub state : (s : State) → (effect s c).state ≡ s
+  pub device : (s : State) (m : Meaning) → (effect s c).device m ≡ m
+  pub no_entry : (s : State) (m : Meaning) → entry_of (Ok (reply_numbers ((effect s c).reply m))) ≡ None
+  pub alike : AnsweredByGuest c (guest_of c)
+
+-- a call puts job j in the place of task k of guest g, whom it names, and brings no entry; its answer and the job go by
+-- what the guest sees; and where it is not refused, the task is in the plan and the job keeps its invariant
+pub record PutsJob (c : PlanCall) (g k : ℕ) (j : State → Job) : Type 0 where
+  pub named : guest_of c ≡ Some g
+  pub state : (s : State) → (effect s c).state ≡ with_job s g k (j s)
+  pub device : (s : State) (m : Meaning) → (effect s c).device m ≡ m
+  pub no_entry : (s : State) (m : Meaning) → entry_of (Ok (reply_numbers ((effect s c).reply m))) ≡ None
+  pub alike : (s t : State) → SameTo g s t → AnsweredAlike c s t
+  pub same_job : (s t : State) → SameTo g s t → j s ≡ j t
+  pub known : (s : State) → (effect s c).refusal ≡ None → NamesTask s.plan g k
+  pub invariant : (s : State) → (effect s c).refusal ≡ None
+      → JobInvariant s.plan (g - 1) (k - 1) (job_of s (g - 1) (k - 1)) → JobInvariant s.plan (g - 1) (k - 1) (j s)
+
+-- a call is a slot, puts a job or changes nothing
+pub data CallKind : PlanCall → Type 0 where
+  slots : CallKind slot
+  puts_job : (c : PlanCall) (g k : ℕ) (j : State → Job) → PutsJob c g k j → CallKind c
+  keeps : (c : PlanCall) → ChangesNothing c → CallKind c
+
+-- a release puts the job that it starts
+pub release_puts : (g k n : ℕ) → PutsJob (release g k n) g k (λ s. job_from_now s g k n)
+release_puts g k n = record {
+  named = refl;
+  state = λ s. refl;
+  device = λ s m. refl;
+  no_entry = λ s m. refl;
+  alike = λ s t same. record {
+    refusal = rw (same.plan, same.passed, same_job_of g (k - 1) s t same) refl;
+    reply = λ l m. rw (same.plan, same.passed) refl;
+  };
+  same_job = λ s t same. rw (same.plan, same.passed) refl;
+  known = λ s none. (releasable s g k n none).known;
+  invariant = λ s none old pending. (omega (arith, (releasable s g k n none).some), (releasable s g k n none).cheap);
+}
+
+-- a withdrawal puts the job that was there, no longer pending
+pub withdrawal_puts : (g k : ℕ) → PutsJob (withdraw g k) g k (λ s. withdrawn_job (job_of s (g - 1) (k - 1)))
+withdrawal_puts g k = record {
+  named = refl;
+  state = λ s. refl;
+  device = λ s m. refl;
+  no_entry = λ s m. refl;
+  alike = λ s t same. record {
+    refusal = rw (same.plan, same_job_of g (k - 1) s t same) refl;
+    reply = λ m n. ap (λ (j : Job). Withdrawn j.done) (same_job_of g (k - 1) s t same);
+  };
+  same_job = λ s t same. ap withdrawn_job (same_job_of g (k - 1) s t same);
+  known = λ s none. withdrawable s g k none;
+  invariant = λ s none old pending. absurd cc;
+}
 
 -- the kind of each call
-pub kind : (s : State) (c : PlanCall) → Kind s c
-kind s (load p) =
-    keeps (load p) (record { state = refl; device = λ m. refl; no_entry = λ m. refl; no_release = λ g k n. refl })
-kind s (release g k n) = releases g k n
-kind s (withdraw g k) = withdraws g k
-kind s (question g) =
-    keeps (question g) (record { state = refl; device = λ m. refl; no_entry = λ m. refl; no_release = λ h k n. refl })
-kind s slot = slots
+pub call_kind : (c : PlanCall) → CallKind c
+call_kind (load p) =
+    keeps (load p) (record { state = λ s. refl; device = λ s m. refl; no_entry = λ s m. refl; alike = tt })
+call_kind (release g k n) = puts_job (release g k n) g k _ (release_puts g k n)
+call_kind (withdraw g k) = puts_job (withdraw g k) g k _ (withdrawal_puts g k)
+call_kind (question g) = keeps (question g) (record {
+  state = λ s. refl;
+  device = λ s m. refl;
+  no_entry = λ s m. refl;
+  alike = λ s t same. record { refusal = rw same.plan refl; reply = λ m n. ap Told same.tally };
+})
+call_kind slot = slots
 
 -- what holds where a change is made, and where it is refused, holds of what becomes of it
 pub holds_unless : {S : Type 0} (P : S → Type 0) (r : Option Decline) (new old : S) → (r ≡ None → P new) → P old
@@ -54,13 +126,12 @@ kept_after f s c same = kept_unless f (effect s c).refusal (effect s c).state s 
 
 -- a call keeps the plan
 pub plan_after : (s : State) (c : PlanCall) → (state_after s c).plan ≡ s.plan
-plan_after s c = kept_after (λ t. t.plan) s c (go c (kind s c))
+plan_after s c = kept_after (λ t. t.plan) s c (go c (call_kind c))
   where
-    go : (d : PlanCall) → Kind s d → (effect s d).state.plan ≡ s.plan
+    go : (d : PlanCall) → CallKind d → (effect s d).state.plan ≡ s.plan
     go d slots = refl
-    go d (releases g k n) = refl
-    go d (withdraws g k) = refl
-    go d (keeps _ quiet) = ap (λ t. t.plan) quiet.state
+    go d (puts_job _ g k j puts) = ap (λ t. t.plan) (puts.state s)
+    go d (keeps _ quiet) = ap (λ t. t.plan) (quiet.state s)
 
 -- a call with its answer passes a slot
 pub record PassesSlot (m : Meaning) (s : State) (c : PlanCall) (a : NumberedAnswer) : Type 0 where
@@ -126,17 +197,18 @@ quiet_still m s c a is none passed tallies device = record {
 -- each call of a loaded rig passes a slot or does not
 pub passing_or_still : (m : Meaning) (s : State) (c : PlanCall) (a : NumberedAnswer) → a ≡ answer_in m s c
     → PassesSlot m s c a ⊎ PassesNoSlot m s c a
-passing_or_still m s c a is = by c is (kind s c)
+passing_or_still m s c a is = by c is (call_kind c)
   where
     slot_by : (r : Option Decline) → slot_refusal s ≡ r → a ≡ answer_in m s slot
         → PassesSlot m s slot a ⊎ PassesNoSlot m s slot a
     slot_by None none says = inl (slot_passing m s a none says)
     slot_by (Some d) some says = inr (refused_still m s slot a d some says)
 
-    by : (d : PlanCall) → a ≡ answer_in m s d → Kind s d → PassesSlot m s d a ⊎ PassesNoSlot m s d a
+    by : (d : PlanCall) → a ≡ answer_in m s d → CallKind d → PassesSlot m s d a ⊎ PassesNoSlot m s d a
     by d says slots = slot_by (slot_refusal s) refl says
-    by d says (releases g k n) = inr (quiet_still m s (release g k n) a says refl refl refl refl)
-    by d says (withdraws g k) = inr (quiet_still m s (withdraw g k) a says refl refl refl refl)
+    by d says (puts_job _ g k j puts) =
+        inr (quiet_still m s d a says (puts.no_entry s m) (ap (λ t. t.passed) (puts.state s))
+        (ap (λ t. t.tallies) (puts.state s)) (puts.device s m))
     by d says (keeps _ quiet) =
-        inr (quiet_still m s d a says (quiet.no_entry m) (ap (λ t. t.passed) quiet.state)
-        (ap (λ t. t.tallies) quiet.state) (quiet.device m))
+        inr (quiet_still m s d a says (quiet.no_entry s m) (ap (λ t. t.passed) (quiet.state s))
+        (ap (λ t. t.tallies) (quiet.state s)) (quiet.device s m))

@@ -6,24 +6,24 @@ use Rattle.decline.specs.declared.Decline.{Decline}
 use Rattle.setups.specs.declared.setup.Task.{Task}
 use Rattle.setups.specs.Plan.{Plan, guest_at, task_at, tasks_of}
 use Rattle.deadlines.specs.Course.{Course, EarliestFirst, SuppliedBy, NothingLate}
-use Rattle.deadlines.specs.Laws.{DueWorkIsDone}
+use Rattle.deadlines.specs.DeadlineLaw.{DueWorkIsDone}
 use Rattle.deadlines.proofs.Lateness.{due_work_is_done}
 use Rattle.deadlines.specs.Sums.{sum_below}
 use Rattle.deadlines.proofs.Sums.{sum_below_next, sum_below_zero}
 use Rattle.schedule.proofs.Counts.{supplied_granted}
 use Rattle.admission.specs.Verdict.{Accepted}
-use Rattle.setups.proofs.Parts.{Part, part, tasks_of-length, tasks_of-ok}
+use Rattle.setups.proofs.GuestPlaces.{TaskPlaces, task_places, tasks_of-length, tasks_of-ok}
 use Rattle.rig.specs.State.{State, job_of, state_at_load}
 use Rattle.rig.specs.Slot.{slot_refusal, with_slot}
 use Rattle.rig.specs.Step.{change_unless}
-use Rattle.rig.proofs.Places.{agreeing}
+use Rattle.rig.proofs.PlanPlaces.{agreeing}
 use Rattle.rig.proofs.RigInvariant.{none_pending}
-use Rattle.rig.specs.Calls.{PlanCall, release, withdraw, question, slot}
+use Rattle.rig.specs.Calls.{PlanCall, question, slot}
 use Rattle.runs.specs.Traces.{Exchange}
 use Rattle.rig.specs.Step.{effect, state_after}
 use Rattle.runs.proofs.Loaded.{state_end}
-use Rattle.runs.proofs.Effects.{ChangesNothing, Kind, slots, releases, withdraws, keeps, kind, holds_unless, kept_after}
-use Rattle.runs.proofs.Slots.{grant_in}
+use Rattle.runs.proofs.Effects.{CallKind, slots, puts_job, keeps, call_kind, holds_unless, kept_after}
+use Rattle.runs.proofs.JobSlots.{grant_in}
 use Rattle.runs.proofs.Ready.{Ready, ready_at_load, ready_after}
 use Rattle.runs.proofs.JobSteps.{job_step}
 use Rattle.runs.proofs.ToGo.{to_go, none_to_go}
@@ -33,11 +33,16 @@ use Rattle.runs.proofs.Work.{middle, stream_at, brings_by, slots_for, call_serve
 abbrev grants_to : Plan → ℕ → ℕ → ℕ
 grants_to p i n = sum_below (grant_in p (i + 1)) n
 
--- what a call that passes no slot adds to the slots granted to guest i
-slots_still : (p : Plan) (i : ℕ) (s : State) (c : PlanCall) → slots_for p i s c ≡ 0
-    → (effect s c).state.passed ≡ s.passed
+-- a call that passes no slot has none for guest i
+none_for : (p : Plan) (i : ℕ) (s : State) (c : PlanCall) → (effect s c).state.passed ≡ s.passed → slots_for p i s c ≡ 0
+none_for p i s slot same = absurd (omega (arith, same))
+none_for p i s c same = refl
+
+-- what it adds to the slots granted to guest i
+slots_still : (p : Plan) (i : ℕ) (s : State) (c : PlanCall) → (effect s c).state.passed ≡ s.passed
     → grants_to p i s.passed + slots_for p i s c ≡ grants_to p i (state_after s c).passed
-slots_still p i s c none same = omega (arith, none, ap (grants_to p i) (kept_after (λ t. t.passed) s c same))
+slots_still p i s c same =
+    omega (arith, none_for p i s c same, ap (grants_to p i) (kept_after (λ t. t.passed) s c same))
 
 -- what a slot adds to them
 slots_passing : (p : Plan) (i : ℕ) (s : State) (r : Option Decline)
@@ -48,37 +53,30 @@ slots_passing p i s None =
     sym (sum_below_next (grant_in p (i + 1)) s.passed) ∙ ap (grants_to p i) next
 slots_passing p i s (Some d) = omega arith
 
--- a quiet call is no slot
-quiet_slots : (p : Plan) (i : ℕ) (s : State) (c : PlanCall) → ChangesNothing s c → slots_for p i s c ≡ 0
-quiet_slots p i s slot quiet =
-    absurd (let same : s.passed + 1 ≡ s.passed = ap (λ t. t.passed) quiet.state in omega (arith, same))
-quiet_slots p i s c quiet = refl
-
 -- the slots granted to guest i of those that have passed before a call, and the slots that the call has for it, are
 -- those granted to it of those that have passed after the call
 slots_add : (p : Plan) (i : ℕ) (s : State) (c : PlanCall)
     → grants_to p i s.passed + slots_for p i s c ≡ grants_to p i (state_after s c).passed
 unfolding state_after
-slots_add p i s c = by c (kind s c)
+slots_add p i s c = by c (call_kind c)
   where
-    by : (d : PlanCall) → Kind s d → grants_to p i s.passed + slots_for p i s d ≡ grants_to p i (state_after s d).passed
+    by : (d : PlanCall) → CallKind d
+        → grants_to p i s.passed + slots_for p i s d ≡ grants_to p i (state_after s d).passed
     by d slots = slots_passing p i s (slot_refusal s)
-    by d (releases g k n) = slots_still p i s (release g k n) refl refl
-    by d (withdraws g k) = slots_still p i s (withdraw g k) refl refl
-    by d (keeps _ quiet) = slots_still p i s d (quiet_slots p i s d quiet) (ap (λ t. t.passed) quiet.state)
+    by d (puts_job _ g k j puts) = slots_still p i s d (ap (λ t. t.passed) (puts.state s))
+    by d (keeps _ quiet) = slots_still p i s d (ap (λ t. t.passed) (quiet.state s))
 
 -- a call lets no fewer slots have passed
 passed_on : (s : State) (c : PlanCall) → s.passed ≤ (state_after s c).passed
 unfolding state_after
 passed_on s c =
-    holds_unless (λ t. s.passed ≤ t.passed) (effect s c).refusal (effect s c).state s (λ none. by c (kind s c))
+    holds_unless (λ t. s.passed ≤ t.passed) (effect s c).refusal (effect s c).state s (λ none. by c (call_kind c))
     (omega arith)
   where
-    by : (d : PlanCall) → Kind s d → s.passed ≤ (effect s d).state.passed
+    by : (d : PlanCall) → CallKind d → s.passed ≤ (effect s d).state.passed
     by d slots = omega arith
-    by d (releases g k n) = omega arith
-    by d (withdraws g k) = omega arith
-    by d (keeps _ quiet) = omega (arith, ap (λ t. t.passed) quiet.state)
+    by d (puts_job _ g k j puts) = omega (arith, ap (λ t. t.passed) (puts.state s))
+    by d (keeps _ quiet) = omega (arith, ap (λ t. t.passed) (quiet.state s))
 
 -- the states one after another, where each call is made on what came of those before
 unfoldable pub state_at : (ℕ → PlanCall) → State → ℕ → State
@@ -146,8 +144,8 @@ module _ (p : Plan) (registers : ℕ) (ok : Accepted p registers) (i : ℕ) (il 
   guest_place = omega (arith, il, ok.form.sizes.guests.few)
 
   -- what is known of its tasks
-  pub own_tasks : Part p.guests p.tasks i
-  own_tasks = part p.guests p.tasks i (agreeing p registers ok) il
+  pub own_tasks : TaskPlaces p.guests p.tasks i
+  own_tasks = task_places p.guests p.tasks i (agreeing p registers ok) il
 
   -- it has as many tasks as it counts
   tasks_counted : length (tasks_of p.guests p.tasks i) ≡ (guest_at p.guests i).task_count

@@ -1,5 +1,5 @@
 -- What a call of a loaded rig does to the job of one task, by what it is.
-use Rattle.std.proofs.Common.{◌≡◌, subst, refl, sym, ap, ap₂, ◌∙◌, ℕ, ◌+◌, ◌-◌, ◌<◌, ◌≤◌, true, false}
+use Rattle.std.proofs.Common.{◌≡◌, subst, refl, sym, ap, ap₂, ◌∙◌, ℕ, ◌+◌, ◌-◌, ◌<◌, true, false}
 use Rattle.std.proofs.Common.{length, Option, Some, None, Ok, ⊎_elim, subst₂, arith, slice_set, ne_eqb, ◌==◌}
 use Rattle.std.proofs.lemmas.List.{get_or-set_other, get_or-set_same}
 use native.Mathlib.Decide.{ℕ_discrete as dec_eq}
@@ -18,18 +18,16 @@ use Rattle.rig.specs.Access.{access_of}
 use Rattle.rig.specs.Calls.{PlanCall, release, withdraw, slot}
 use Rattle.rig.specs.Parts.{operations_of}
 use Rattle.rig.specs.Replies.{reply_numbers, entry_of}
-use Rattle.rig.specs.Requests.{release_refusal, job_from_now, with_release}
-use Rattle.rig.specs.Requests.{withdraw_refusal, done_of, withdrawn_job, with_withdrawal}
+use Rattle.rig.specs.Requests.{job_from_now, done_of, withdrawn_job}
 use Rattle.rig.specs.Slot.{slot_refusal, next_entry, with_slot, with_operation}
 use Rattle.rig.specs.State.{State, no_job, job_of, jobs_of}
 use Rattle.rig.specs.Step.{answer_unless, change_unless, effect, answer_in, state_after}
-use Rattle.runs.specs.Entries.{is_use_by, size_by, size_after}
-use Rattle.runs.specs.Laws.{withdrawn_after}
+use Rattle.runs.specs.TraceEntries.{is_use_by, size_by, size_after}
+use Rattle.runs.specs.Laws.{withdraw_answer}
 use Rattle.runs.specs.Traces.{exchange}
-use Rattle.runs.proofs.Effects.{Kind, kind, kept_after}
-use Rattle.runs.proofs.Effects as kinds
-use Rattle.runs.proofs.Requests.{job_put, Started, started, releasable, withdrawable}
-use Rattle.runs.proofs.Slots.{job_in, entry_at, SlotFor, other, granted, slot_for}
+use Rattle.runs.proofs.Effects.{PutsJob, release_puts, withdrawal_puts, kept_after}
+use Rattle.runs.proofs.JobRequests.{job_put, StartsJob, starts_job, releasable}
+use Rattle.runs.proofs.JobSlots.{job_in, event_entry, SlotFor, other, granted, slot_for}
 use Rattle.runs.proofs.Ready.{Ready}
 
 -- an entry, if there is one, is no use by task k of guest g, both from 0
@@ -83,9 +81,9 @@ pub data JobStep (s : State) (c : PlanCall) (g k : ℕ) : Type 0 where
   stays : job_of (state_after s c) g k ≡ job_of s g k → ((m : Meaning) → Elsewhere m s c g k) → JobStep s c g k
   -- it releases n operations
   releases : (n : ℕ) → c ≡ release (g + 1) (k + 1) n → (effect s c).refusal ≡ None
-      → Started s.plan s g k n (job_of (state_after s c) g k) → JobStep s c g k
+      → StartsJob s.plan s g k n (job_of (state_after s c) g k) → JobStep s c g k
   -- it withdraws the job
-  withdraws : c ≡ withdraw (g + 1) (k + 1) → ((m : Meaning) → answer_in m s c ≡ withdrawn_after (job_of s g k).done)
+  withdraws : c ≡ withdraw (g + 1) (k + 1) → ((m : Meaning) → answer_in m s c ≡ withdraw_answer (job_of s g k).done)
       → job_of (state_after s c) g k ≡ withdrawn_job (job_of s g k) → JobStep s c g k
   -- it is a slot that the job uses
   operates : c ≡ slot → ((m : Meaning) → answer_in m s c ≡ Ok (reply_numbers (Passed (used_entry s m g k))))
@@ -93,13 +91,13 @@ pub data JobStep (s : State) (c : PlanCall) (g k : ℕ) : Type 0 where
       → job_of (state_after s c) g k ≡ with_operation (job_of s g k) → JobStep s c g k
 
 -- a release by another task is no release by task k of guest g, both from 0
-other_release : (g k h l : ℕ) (m n : ℕ) → 1 ≤ h → 1 ≤ l → ((g ≡ h - 1) × (k ≡ l - 1) → ⊥)
+other_release : (g k h l : ℕ) (m n : ℕ) → ((h ≡ g + 1) × (l ≡ k + 1) → ⊥)
     → size_by (g + 1) (k + 1) n (release h l m) ≡ n
-other_release g k h l m n from₁ from₂ apart =
+other_release g k h l m n apart =
     elim (dec_eq h (g + 1)) [
       | yes here ↦
           elim (dec_eq l (k + 1)) [
-            | yes there ↦ absurd (apart (omega (arith, here), omega (arith, there)))
+            | yes there ↦ absurd (apart (here, there))
             | no e ↦ rw (ne_eqb l (k + 1) e) (rw (and-false (h == g + 1)) refl)
           ]
       | no e ↦ rw (ne_eqb h (g + 1) e) refl
@@ -114,47 +112,56 @@ module _ (p : Plan) (s : State) (ready : Ready p s) (g k : ℕ) (guest : g < 16)
   deep : k < length (jobs_of s g)
   deep = omega (arith, task, ready.rows.deep g guest)
 
-  -- a release
-  release_step : (h l n : ℕ) (r : Option Decline) → release_refusal s h l n ≡ r → JobStep s (release h l n) g k
+  -- a call that puts a job, by what it does where it is not refused and this is its place
+  put_step : (c : PlanCall) (h l : ℕ) (j : State → Job) → PutsJob c h l j
+      → (((h ≡ g + 1) × (l ≡ k + 1) → ⊥) → (n : ℕ) → size_by (g + 1) (k + 1) n c ≡ n)
+      → ((effect s c).refusal ≡ None → h ≡ g + 1 → l ≡ k + 1 → job_of (state_after s c) g k ≡ j s → JobStep s c g k)
+      → JobStep s c g k
   unfolding state_after
-  release_step h l n (Some d) some =
-      stays (ap (λ r. job_of (change_unless r (with_release s h l n) s) g k) some)
-      (λ m. elsewhere_refused m s (release h l n) g k d some)
-  release_step h l n None none =
-      let may = releasable s h l n none in
-      let becomes = ap (λ r. job_of (change_unless r (with_release s h l n) s) g k) none in
-      ⊎_elim
-      (λ here.
-      let hg : h ≡ g + 1 = omega (arith, here.0, may.known.guest_from) in
-      let lk : l ≡ k + 1 = omega (arith, here.1, may.known.task_from) in
+  put_step c h l j puts elsewhere in_place = go (effect s c).refusal refl
+    where
+      go : (r : Option Decline) → (effect s c).refusal ≡ r → JobStep s c g k
+      go (Some d) some =
+          stays (ap (λ r. job_of (change_unless r (effect s c).state s) g k) some)
+          (λ m. elsewhere_refused m s c g k d some)
+      go None none =
+          let known = puts.known s none in
+          let becomes = ap (λ r. job_of (change_unless r (effect s c).state s) g k) none
+          ∙ ap (λ t. job_of t g k) (puts.state s) in
+          ⊎_elim
+          (λ here.
+          in_place none (omega (arith, here.0, known.guest_from)) (omega (arith, here.1, known.task_from))
+          (becomes ∙ here.2))
+          (λ apart. stays (becomes ∙ apart.1)
+          (λ m. elsewhere_quiet m s c g k (puts.no_entry s m)
+          (elsewhere (λ same. apart.0 (omega (arith, same.0), omega (arith, same.1))))))
+          (job_put s (h - 1) (l - 1) (j s) g k wide deep)
+
+  -- a release
+  release_step : (h l n : ℕ) → JobStep s (release h l n) g k
+  release_step h l n =
+      put_step (release h l n) h l _ (release_puts h l n) (λ apart x. other_release g k h l n x apart)
+      (λ none hg lk is.
+      let e : h - 1 ≡ g = omega (arith, hg) in
+      let f : l - 1 ≡ k = omega (arith, lk) in
       releases n (ap₂ (λ a b. release a b n) hg lk) none
-      (subst (Started s.plan s g k n) (sym (becomes ∙ here.2))
-      (subst₂ (λ a b. Started s.plan s a b n (job_from_now s h l n)) (sym here.0) (sym here.1) (started s h l n may))))
-      (λ apart. stays (becomes ∙ apart.1)
-      (λ m. elsewhere_quiet m s (release h l n) g k refl
-      (λ x. other_release g k h l n x may.known.guest_from may.known.task_from apart.0)))
-      (job_put s (h - 1) (l - 1) (job_from_now s h l n) g k wide deep)
+      (subst (StartsJob s.plan s g k n) (sym is)
+      (subst₂ (λ a b. StartsJob s.plan s a b n (job_from_now s h l n)) e f
+      (starts_job s h l n (releasable s h l n none)))))
 
   -- a withdrawal
-  withdraw_step : (h l : ℕ) (r : Option Decline) → withdraw_refusal s h l ≡ r → JobStep s (withdraw h l) g k
-  unfolding state_after answer_in
-  withdraw_step h l (Some d) some =
-      stays (ap (λ r. job_of (change_unless r (with_withdrawal s h l) s) g k) some)
-      (λ m. elsewhere_refused m s (withdraw h l) g k d some)
-  withdraw_step h l None none =
-      let may = withdrawable s h l none in
-      let becomes = ap (λ r. job_of (change_unless r (with_withdrawal s h l) s) g k) none in
-      ⊎_elim
-      (λ here.
-      let hg : h ≡ g + 1 = omega (arith, here.0, may.guest_from) in
-      let lk : l ≡ k + 1 = omega (arith, here.1, may.task_from) in
-      let same = ap₂ (job_of s) (sym here.0) (sym here.1) in
+  withdraw_step : (h l : ℕ) → JobStep s (withdraw h l) g k
+  unfolding answer_in
+  withdraw_step h l =
+      put_step (withdraw h l) h l _ (withdrawal_puts h l) (λ apart x. refl)
+      (λ none hg lk is.
+      let e : h - 1 ≡ g = omega (arith, hg) in
+      let f : l - 1 ≡ k = omega (arith, lk) in
+      let same = ap₂ (job_of s) e f in
       withdraws (ap₂ withdraw hg lk)
       (λ m. ap (λ r. answer_unless r (reply_numbers (Withdrawn (done_of s h l)))) none
-      ∙ ap (λ (j : Job). withdrawn_after j.done) same)
-      (becomes ∙ here.2 ∙ ap withdrawn_job same))
-      (λ apart. stays (becomes ∙ apart.1) (λ m. elsewhere_quiet m s (withdraw h l) g k refl (λ x. refl)))
-      (job_put s (h - 1) (l - 1) (withdrawn_job (job_of s (h - 1) (l - 1))) g k wide deep)
+      ∙ ap (λ (j : Job). withdraw_answer j.done) same)
+      (is ∙ ap withdrawn_job same))
 
   -- what is known of a slot that passes and that the job does not use
   passing_elsewhere : (m : Meaning) → slot_refusal s ≡ None
@@ -170,7 +177,7 @@ module _ (p : Plan) (s : State) (ready : Ready p s) (g k : ℕ) (guest : g < 16)
       (λ m. passing_elsewhere m none (not_by (k + 1) m))
   passing_step none (granted count None by is) =
       stays (ap (λ r. job_of (change_unless r (with_slot s) s) g k) none ∙ ap (λ js. job_in js k) by.0)
-      (λ m. passing_elsewhere m none (ap (λ e. is_use_by (g + 1) (k + 1) (fields_of (entry_at s.passed e))) (is m)))
+      (λ m. passing_elsewhere m none (ap (λ e. is_use_by (g + 1) (k + 1) (fields_of (event_entry s.passed e))) (is m)))
   passing_step none (granted count (Some q) by is) =
       let becomes : job_of (state_after s slot) g k
       ≡ job_in (slice_set (jobs_of s g) q (with_operation (job_of s g q))) k =
@@ -178,7 +185,7 @@ module _ (p : Plan) (s : State) (ready : Ready p s) (g k : ℕ) (guest : g < 16)
       elim (dec_eq q k) [
         | yes here ↦
             operates refl
-            (λ m. rw none (ap (λ e. Ok (reply_numbers (Passed (entry_at s.passed e)))) (is m)
+            (λ m. rw none (ap (λ e. Ok (reply_numbers (Passed (event_entry s.passed e)))) (is m)
             ∙ ap (λ x. Ok (reply_numbers (Passed (used_entry s m g x)))) here))
             (rw here at by.waiting)
             (becomes ∙ ap (λ x. job_in (slice_set (jobs_of s g) x (with_operation (job_of s g x))) k) here
@@ -186,7 +193,8 @@ module _ (p : Plan) (s : State) (ready : Ready p s) (g k : ℕ) (guest : g < 16)
         | no apart ↦
             stays
             (becomes ∙ get_or-set_other (jobs_of s g) q k (with_operation (job_of s g q)) no_job (λ e. apart (sym e)))
-            (λ m. passing_elsewhere m none (ap (λ e. is_use_by (g + 1) (k + 1) (fields_of (entry_at s.passed e))) (is m)
+            (λ m. passing_elsewhere m none
+            (ap (λ e. is_use_by (g + 1) (k + 1) (fields_of (event_entry s.passed e))) (is m)
             ∙ rw (ne_eqb (q + 1) (k + 1) (λ e. apart (omega (arith, e)))) (and-false (g + 1 == g + 1))))
       ]
 
@@ -199,12 +207,7 @@ module _ (p : Plan) (s : State) (ready : Ready p s) (g k : ℕ) (guest : g < 16)
 
   -- each call does one of these
   pub job_step : (c : PlanCall) → JobStep s c g k
-  job_step c = by c (kind s c)
-    where
-      by : (d : PlanCall) → Kind s d → JobStep s d g k
-      by d kinds.slots = slot_step (slot_refusal s) refl
-      by d (kinds.releases h l n) = release_step h l n (release_refusal s h l n) refl
-      by d (kinds.withdraws h l) = withdraw_step h l (withdraw_refusal s h l) refl
-      by d (kinds.keeps _ quiet) =
-          stays (kept_after (λ t. job_of t g k) s d (ap (λ t. job_of t g k) quiet.state))
-          (λ m. elsewhere_quiet m s d g k (quiet.no_entry m) (quiet.no_release (g + 1) (k + 1)))
+  job_step slot = slot_step (slot_refusal s) refl
+  job_step (release h l n) = release_step h l n
+  job_step (withdraw h l) = withdraw_step h l
+  job_step c = stays (kept_after (λ t. job_of t g k) s c refl) (λ m. elsewhere_quiet m s c g k refl (λ n. refl))

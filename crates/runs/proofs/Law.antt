@@ -7,7 +7,7 @@ use Rattle.admission.specs.Verdict.{Accepted}
 use Rattle.rig.specs.State.{state_at_load}
 use Rattle.rig.specs.Step.{RigState, fresh_rig, loaded_rig}
 use Rattle.runs.specs.Traces.{Exchange, IsTrace}
-use Rattle.runs.specs.Laws.{LoadedWith, DeclinedFresh, OneView}
+use Rattle.runs.specs.Laws.{LoadedWith, RefusedFresh, OneView}
 use Rattle.runs.specs.Run.{History, KeepsLaw}
 use Rattle.runs.proofs.Loaded.{AnswersOf, loaded_trace, device_end, state_end}
 use Rattle.runs.proofs.Start.{loads_once, trace_join}
@@ -20,7 +20,7 @@ use Rattle.runs.proofs.View.{one_view}
 record Since (m : Meaning) (p : Plan) (before since : List Exchange) (after : RigState) : Type 0 where
   accepted : Accepted p (register_count m)
   fit : ValuesFit p
-  declined : All (DeclinedFresh m) before
+  declined : All (RefusedFresh m) before
   answers : AnswersOf m (state_at_load p) since
   end : after ≡ loaded_rig (device_end m (state_at_load p) since) (state_end (state_at_load p) since)
 

@@ -21,13 +21,13 @@ use Rattle.runs.specs.Traces.{Exchange, exchange}
 use Rattle.journal.specs.declared.entries.Event.TheVariants as event
 use Rattle.journal.specs.Entries.{fields_of}
 use Rattle.rig.specs.Replies.{entry_of}
-use Rattle.runs.specs.Entries.{entry_before, entries, slots_passed, is_between, is_use_by}
+use Rattle.runs.specs.TraceEntries.{entry_before, entries, slots_passed, is_between, is_use_by}
 use Rattle.runs.specs.Laws.{CarriesOut, WithdrawnBefore}
 use Rattle.rig.specs.Step.{answer_in, state_after, meaning_after}
 use Rattle.runs.proofs.Loaded.{state_end, AnswersOf}
 use Rattle.runs.proofs.Effects.{PassesSlot, PassesNoSlot, passing_or_still, entry_passing}
-use Rattle.runs.proofs.Entries.{entries_passing, entries_still, state_end_append, slot_at}
-use Rattle.runs.proofs.Slots.{entry_at}
+use Rattle.runs.proofs.TraceEntries.{entries_passing, entries_still, state_end_append, slot_at}
+use Rattle.runs.proofs.JobSlots.{event_entry}
 use Rattle.runs.proofs.Ready.{Ready, job_ready, ready_end, ready_at_load}
 use Rattle.runs.proofs.JobSteps.{JobStep, stays, releases, withdraws, operates, NotUsed, used_entry, job_step}
 use Rattle.runs.proofs.ToGo.{to_go, to_go_operated}
@@ -91,27 +91,27 @@ next_in_order os done n e es used rest = record {
 
 -- an entry whose access is how a device takes an operation carries it out
 carries_out : (m : Meaning) (o : Operation) (n g k i d : ℕ)
-    → CarriesOut o (fields_of (entry_at n (event.Used g k i (access_of m o) d)))
+    → CarriesOut o (fields_of (event_entry n (event.Used g k i (access_of m o) d)))
 carries_out m (Write r v) n g k i d = (refl, refl)
 carries_out m (Read r) n g k i d = by (read_answer m r)
   where
-    by : (x : Result ℕ Refused) → (fields_of (entry_at n (event.Used g k i (read_access r x) d))).register ≡ r
+    by : (x : Result ℕ Refused) → (fields_of (event_entry n (event.Used g k i (read_access r x) d))).register ≡ r
     by (Ok v) = refl
     by (Err e) = refl
 
 -- a rig that was loaded with a plan has this state after some calls
-abbrev pub Reached : Plan → State → Type 0
-Reached p s = (past : List Exchange) × (s ≡ state_end (state_at_load p) past)
+abbrev pub IsReachable : Plan → State → Type 0
+IsReachable p s = (past : List Exchange) × (s ≡ state_end (state_at_load p) past)
 
 -- a rig that has a state after some calls has the state after one more
-pub reached_after : (p : Plan) (s : State) (x : Exchange) → Reached p s → Reached p (state_after s x.call)
+pub reachable_after : (p : Plan) (s : State) (x : Exchange) → IsReachable p s → IsReachable p (state_after s x.call)
 unfolding state_end
-reached_after p s x (past, is) =
+reachable_after p s x (past, is) =
     (past ++ x ∷ [], ap (λ t. state_after t x.call) is ∙ sym (state_end_append (state_at_load p) past (x ∷ [])))
 
 -- the job of task k of guest g, both from 0, is due when d slots have passed, the next may not start before,
 -- and so far at least a and at most d have passed
-pub record Running (g k a d : ℕ) (s : State) : Type 0 where
+pub record BeforeDeadline (g k a d : ℕ) (s : State) : Type 0 where
   pub due : (job_of s g k).deadline ≡ d
   pub alone : d ≤ (job_of s g k).next_start
   pub begun : a ≤ s.passed
@@ -172,11 +172,11 @@ withdrawn_later m s x d g k xs said w = record {
 
 module _ (p : Plan) (g k a d : ℕ) (m : Meaning) (s : State) (x : Exchange) (xs : List Exchange) (plan : s.plan ≡ p)
     (said : x.answer ≡ answer_in m s x.call)
-    (run : Running g k a d s) (early : s.passed < d) where
-  -- the job is still running after a call that leaves its deadline and its next start
+    (run : BeforeDeadline g k a d s) (early : s.passed < d) where
+  -- the job is still before its deadline after a call that leaves its deadline and its next start
   goes_on : (job_of (state_after s x.call) g k).deadline ≡ (job_of s g k).deadline
       → (job_of (state_after s x.call) g k).next_start ≡ (job_of s g k).next_start
-      → Running g k a d (state_after s x.call)
+      → BeforeDeadline g k a d (state_after s x.call)
   goes_on due next =
       let few = one_at_most m s x said in
       record {
@@ -186,9 +186,10 @@ module _ (p : Plan) (g k a d : ℕ) (m : Meaning) (s : State) (x : Exchange) (xs
         before = omega (arith, few.0, early);
       }
 
-  -- a running job ends well in a call and those after it, if it does in those after it where it is still running
+  -- a job ends well in a call and those after it, if it does in those after it where it is
+  -- still before its deadline
   step_ends_well : JobStep s x.call g k → ((job_of s g k).pending ≡ true → (job_of s g k).done < (job_of s g k).size)
-      → (Running g k a d (state_after s x.call) → EndsWell p g k a d (state_after s x.call) xs)
+      → (BeforeDeadline g k a d (state_after s x.call) → EndsWell p g k a d (state_after s x.call) xs)
       → EndsWell p g k a d s (x ∷ xs)
   unfolding entries
   step_ends_well (stays same none) undone then =
@@ -232,9 +233,9 @@ module _ (p : Plan) (g k a d : ℕ) (m : Meaning) (s : State) (x : Exchange) (xs
 
 module _ (p : Plan) (registers : ℕ) (ok : Accepted p registers) (g k a d : ℕ) (gl : g < length p.guests)
     (kl : k < (guest_at p.guests g).task_count) (g16 : g < 16) (k8 : k < 8) where
-  -- a running job that is due ends well, as nothing of it is to go and the entries of later calls are of later slots
-  due_ends_well : (m : Meaning) (s : State) (xs : List Exchange) → Reached p s → AnswersOf m s xs → Running g k a d s
-      → d ≤ s.passed → EndsWell p g k a d s xs
+  -- a job that is due ends well, as nothing of it is to go and the entries of later calls are of later slots
+  due_ends_well : (m : Meaning) (s : State) (xs : List Exchange) → IsReachable p s → AnswersOf m s xs
+      → BeforeDeadline g k a d s → d ≤ s.passed → EndsWell p g k a d s xs
   due_ends_well m s xs (past, is) all run due =
       inr (none_in_order (operations_of p g k) (job_of s g k).done (to_go (job_of s g k))
       (uses (g + 1) (k + 1) a d (entries xs))
@@ -247,9 +248,9 @@ module _ (p : Plan) (registers : ℕ) (ok : Accepted p registers) (g k a d : ℕ
       too_late : (e : Fields) → d ≤ e.slot → is_between a d e ≡ false
       too_late e late = grind (arith, common_steps)
 
-  -- a running job ends well in calls in which its deadline is reached
-  pub ends_well : (m : Meaning) (s : State) (xs : List Exchange) → Reached p s → AnswersOf m s xs → Running g k a d s
-      → d ≤ s.passed + slots_passed xs → EndsWell p g k a d s xs
+  -- a job ends well in calls in which its deadline is reached
+  pub ends_well : (m : Meaning) (s : State) (xs : List Exchange) → IsReachable p s → AnswersOf m s xs
+      → BeforeDeadline g k a d s → d ≤ s.passed + slots_passed xs → EndsWell p g k a d s xs
   unfolding AnswersOf
   ends_well m s [] reached all run far = due_ends_well m s [] reached all run (unfold entries in omega (arith, far))
   ends_well m s (x ∷ xs) reached all run far =
@@ -259,7 +260,7 @@ module _ (p : Plan) (registers : ℕ) (ok : Accepted p registers) (g k a d : ℕ
             subst (Ready p) (sym reached.1) (ready_end p (state_at_load p) reached.0 (ready_at_load p)) in
             step_ends_well p g k a d m s x xs ready.plan all.0 run early (job_step p s ready g k g16 k8 x.call)
             (λ pending. (job_ready p s g k ready pending).undone)
-            (λ on. ends_well (meaning_after m s x.call) (state_after s x.call) xs (reached_after p s x reached) all.1 on
-            (omega (arith, far, slots_after m s x all.0 xs))))
+            (λ on. ends_well (meaning_after m s x.call) (state_after s x.call) xs (reachable_after p s x reached) all.1
+            on (omega (arith, far, slots_after m s x all.0 xs))))
         | no late ↦ due_ends_well m s (x ∷ xs) reached all run (omega (arith, late))
       ]

@@ -13,22 +13,21 @@ use Rattle.rig.specs.Parts.{task_of}
 use Rattle.rig.specs.State.{State, state_at_load, job_at_start, row_at_start}
 use Rattle.rig.specs.State.{no_tally, row_at, rows_with, jobs_of, job_of}
 use Rattle.rig.specs.Slot.{first_job, granted_work, work_of, with_operation, jobs_after, with_slot}
-use Rattle.rig.specs.Requests.{release_refusal, with_job, with_release, with_withdrawal, job_from_now, withdrawn_job}
+use Rattle.rig.specs.Requests.{with_job}
 use Rattle.rig.specs.Invariants.{JobInvariant, JobsInvariant}
 use Rattle.rig.proofs.RigInvariant.{each_set, jobs_invariant_with, jobs_invariant_at_start, cost_within}
 use Rattle.rig.specs.Calls.{PlanCall}
 use Rattle.runs.specs.Traces.{Exchange}
 use Rattle.rig.specs.Step.{effect, state_after}
 use Rattle.runs.proofs.Loaded.{state_end}
-use Rattle.runs.proofs.Effects.{Kind, slots, releases, withdraws, keeps, kind, holds_unless}
-use Rattle.runs.proofs.Requests.{releasable}
-use Rattle.runs.proofs.Slots.{first_pending, granted_jobs, length_tallies}
+use Rattle.runs.proofs.Effects.{PutsJob, CallKind, slots, puts_job, keeps, call_kind, holds_unless}
+use Rattle.runs.proofs.JobSlots.{first_pending, granted_jobs, length_tallies}
 
--- the jobs of all are 8 for each of 16 guests, and each is kept
+-- the jobs of all are 8 for each of 16 guests, and the invariant of each holds
 pub record RowsReady (p : Plan) (rows : List (List Job)) : Type 0 where
   pub wide : length rows ≡ 16
   pub deep : (g : ℕ) → g < 16 → length (row_at rows g) ≡ 8
-  pub kept : JobsInvariant p rows
+  pub invariant : JobsInvariant p rows
 
 -- a loaded rig has this plan, its jobs are ready, and it has 16 tallies
 pub record Ready (p : Plan) (s : State) : Type 0 where
@@ -48,20 +47,20 @@ pub job_ready : (p : Plan) (s : State) (g k : ℕ) → Ready p s → (job_of s g
     → JobReady p g k (job_of s g k)
 unfolding JobsInvariant
 job_ready p s g k ready pending =
-    let (undone, cheap) = ready.rows.kept g k pending in
+    let (undone, cheap) = ready.rows.invariant g k pending in
     record { task = cost_within p g k (omega (arith, undone, cheap)); undone = undone; cheap = cheap }
 
--- jobs stay ready when one is set that is kept
+-- jobs stay ready when a job whose invariant holds is set among them
 rows_ready_with : (p : Plan) (rows : List (List Job)) (g k : ℕ) (j : Job) → RowsReady p rows → JobInvariant p g k j
     → RowsReady p (rows_with rows g k j)
 rows_ready_with p rows g k j ready new = record {
   wide = length-set rows g _ ∙ ready.wide;
   deep = each_set rows g _ [] (λ h row. h < 16 → length row ≡ 8) ready.deep
       (λ l. length-set (row_at rows g) k j ∙ ready.deep g l);
-  kept = jobs_invariant_with p rows g k j ready.kept new;
+  invariant = jobs_invariant_with p rows g k j ready.invariant new;
 }
 
--- a rig stays ready when a job is put in a place that is kept
+-- a rig stays ready when a job whose invariant holds is put in a place
 with_job_ready : (p : Plan) (s : State) (g k : ℕ) (j : Job) → Ready p s → JobInvariant p (g - 1) (k - 1) j
     → Ready p (with_job s g k j)
 with_job_ready p s g k j ready new = record {
@@ -70,18 +69,15 @@ with_job_ready p s g k j ready new = record {
   counts = ready.counts;
 }
 
--- a release that is not refused leaves a rig ready
-release_ready : (p : Plan) (s : State) (g k m : ℕ) → Ready p s → release_refusal s g k m ≡ None
-    → Ready p (with_release s g k m)
-release_ready p s g k m ready none =
-    let may = releasable s g k m none in
-    with_job_ready p s g k (job_from_now s g k m) ready
-    (λ pending. (omega (arith, may.some), subst (λ q. m ≤ (task_of q (g - 1) (k - 1)).cost) ready.plan may.cheap))
-
--- a withdrawal leaves a rig ready
-withdrawal_ready : (p : Plan) (s : State) (g k : ℕ) → Ready p s → Ready p (with_withdrawal s g k)
-withdrawal_ready p s g k ready =
-    with_job_ready p s g k (withdrawn_job (job_of s (g - 1) (k - 1))) ready (λ pending. absurd cc)
+-- a call that puts a job and is not refused leaves a rig ready
+put_ready : (p : Plan) (s : State) (c : PlanCall) (g k : ℕ) (j : State → Job) → PutsJob c g k j → Ready p s
+    → (effect s c).refusal ≡ None → Ready p (effect s c).state
+unfolding JobsInvariant
+put_ready p s c g k j puts ready none =
+    let old = job_of s (g - 1) (k - 1) in
+    let new = subst (λ q. JobInvariant q (g - 1) (k - 1) old → JobInvariant q (g - 1) (k - 1) (j s)) ready.plan
+    (puts.invariant s none) (ready.rows.invariant (g - 1) (k - 1)) in
+    subst (Ready p) (sym (puts.state s)) (with_job_ready p s g k (j s) ready new)
 
 -- a slot that is granted leaves jobs ready
 granted_ready : (p : Plan) (s : State) (g : ℕ) (r : Option ℕ) → Ready p s → first_job (jobs_of s g) ≡ r
@@ -108,13 +104,12 @@ slot_ready p s ready =
 pub ready_after : (p : Plan) (s : State) (c : PlanCall) → Ready p s → Ready p (state_after s c)
 unfolding state_after
 ready_after p s c ready =
-    holds_unless (Ready p) (effect s c).refusal (effect s c).state s (λ none. go c (kind s c) none) ready
+    holds_unless (Ready p) (effect s c).refusal (effect s c).state s (λ none. go c (call_kind c) none) ready
   where
-    go : (d : PlanCall) → Kind s d → (effect s d).refusal ≡ None → Ready p (effect s d).state
+    go : (d : PlanCall) → CallKind d → (effect s d).refusal ≡ None → Ready p (effect s d).state
     go d slots none = slot_ready p s ready
-    go d (releases g k m) none = release_ready p s g k m ready none
-    go d (withdraws g k) none = withdrawal_ready p s g k ready
-    go d (keeps _ quiet) none = subst (Ready p) (sym quiet.state) ready
+    go d (puts_job _ g k j puts) none = put_ready p s d g k j puts ready none
+    go d (keeps _ quiet) none = subst (Ready p) (sym (quiet.state s)) ready
 
 -- calls leave a rig ready
 pub ready_end : (p : Plan) (s : State) (xs : List Exchange) → Ready p s → Ready p (state_end s xs)
@@ -129,7 +124,7 @@ ready_at_load p = record {
   rows = record {
     wide = length-replicate 16 row_at_start;
     deep = λ g l. rw (get_or-replicate 16 g row_at_start [] l) (length-map-range_with_len job_at_start 0 8);
-    kept = jobs_invariant_at_start p;
+    invariant = jobs_invariant_at_start p;
   };
   counts = length-replicate 16 no_tally;
 }

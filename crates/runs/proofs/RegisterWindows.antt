@@ -6,7 +6,7 @@ use Rattle.std.proofs.lemmas.List.{get_or_past}
 use Rattle.std.proofs.lemmas.List.Sums.{sum_by_more}
 use Rattle.std.proofs.lemmas.List.Elements.{All-get_or, All-take, All-drop}
 use Rattle.device.specs.Meaning.{Meaning}
-use Rattle.device.specs.Alike.{AlikeWithin}
+use Rattle.device.proofs.Alike.{AlikeWithin}
 use Rattle.device.proofs.Alike.{within_refl, same_read, same_write, same_after, write_outside}
 use Rattle.setups.specs.declared.setup.Operation.{Operation}
 use Rattle.setups.specs.declared.setup.Operation.TheVariants.{Write, Read}
@@ -15,8 +15,8 @@ use Rattle.setups.specs.Plan.{Plan, no_operation, guest_at, cost_of, task_start,
 use Rattle.setups.specs.Plan.{OwnsPlace, ValueFits, ValuesFit}
 use Rattle.setups.specs.Limits.{window_end, Inside, Apart, WindowsOk}
 use Rattle.admission.specs.Verdict.{Accepted}
-use Rattle.setups.proofs.Parts.{part, prefix_grows}
-use Rattle.rig.proofs.Places.{agreeing, place_within, task_is, operation_is}
+use Rattle.setups.proofs.GuestPlaces.{task_places, prefix_grows}
+use Rattle.rig.proofs.PlanPlaces.{agreeing, place_within, task_is, operation_is}
 use Rattle.rig.specs.Access.{access_of, after_operation, write_access, read_access}
 use Rattle.rig.specs.Parts.{task_of, operations_of, first_operation, fixed_operation}
 
@@ -88,7 +88,7 @@ operation_owned : (p : Plan) (registers : ℕ) → Accepted p registers
     → OwnsPlace (operation_start p.guests p.tasks) h (first_operation p h k + q)
 unfolding operation_start
 operation_owned p registers ok h k q guest task below =
-    let its = part p.guests p.tasks h (agreeing p registers ok) guest in
+    let its = task_places p.guests p.tasks h (agreeing p registers ok) guest in
     let j = task_start p.guests h + k in
     let more = sum_by_more cost_of p.tasks j no_task (place_within p registers ok h k guest task) in (
       omega (arith, prefix_grows cost_of p.tasks (task_start p.guests h) j (omega arith)),

@@ -9,7 +9,7 @@ use Rattle.rig.specs.declared.reply.Reply.{Reply}
 use Rattle.rig.specs.Calls.{PlanCall, plan_call}
 use Rattle.rig.specs.Replies.{NumberedAnswer, answer_numbers}
 use Rattle.rig.specs.Step.{RigState, IsStep}
-use Rattle.runs.specs.Traces.{exchange, exchanges, IsTrace, AreMade}
+use Rattle.runs.specs.Traces.{exchange, exchanges, IsTrace, IsAnsweredTrace}
 use Rattle.runs.specs.Run.{IsRun}
 use Rattle.runs.proofs.Start.{trace_join}
 use Rattle.runs.proofs.Law.{law_kept}
@@ -26,14 +26,15 @@ exchanges_more (d ∷ cs) (b ∷ as′) c a long =
     ap (λ xs. exchange d b ∷ xs) (exchanges_more cs as′ c a (omega (arith, long)))
 
 -- no calls have been made, before the first
-none_made : (r : RigState) → AreMade r [] [] r
+none_made : (r : RigState) → IsAnsweredTrace r [] [] r
 unfolding IsTrace exchanges
 none_made r = record { one_each = refl; steps = refl }
 
 -- calls that have been made, and one more
 more_made : (r between after : RigState) (cs : List PlanCall) (as′ : List NumberedAnswer) (c : PlanCall)
     (a : NumberedAnswer)
-    → AreMade r cs as′ between → IsStep between c a after → AreMade r (cs ++ c ∷ []) (as′ ++ a ∷ []) after
+    → IsAnsweredTrace r cs as′ between → IsStep between c a after
+    → IsAnsweredTrace r (cs ++ c ∷ []) (as′ ++ a ∷ []) after
 unfolding IsTrace
 more_made r between after cs as′ c a made step =
     record {
@@ -47,7 +48,7 @@ more_made r between after cs as′ c a made step =
 unfoldable pub FirstMade : RigState → List Call → (places answers : List (Result Reply Decline)) → ℕ → RigState → Type 0
 FirstMade r calls places answers i after =
     (length answers ≡ length places) × (drop i answers ≡ drop i places)
-    × AreMade r (map plan_call (take i calls)) (map answer_numbers (take i answers)) after
+    × IsAnsweredTrace r (map plan_call (take i calls)) (map answer_numbers (take i answers)) after
 
 -- at first none were
 pub none_first : (r : RigState) (calls : List Call) (places : List (Result Reply Decline))

@@ -1,6 +1,6 @@
 -- What a guest sees of a loaded rig, and how calls change it.
 use Rattle.std.proofs.Common.{◌≡◌, refl, sym, ap, ap₂, ◌∙◌, subst, ℕ, ◌+◌, ◌-◌, ◌<◌, ◌≤◌, ◌⊎◌, inl, inr, ⊎_elim}
-use Rattle.std.proofs.Common.{true, false, ◌==◌, List, [], length, get_or, slice_set, Option, Some, None, arith}
+use Rattle.std.proofs.Common.{true, false, List, [], length, get_or, slice_set, Option, Some, None, arith}
 use native.Mathlib.Decide.{ℕ_discrete as dec_eq}
 use Rattle.std.proofs.lemmas.Bool.{eqb-true, eqb-false, ne_eqb}
 use Rattle.std.proofs.lemmas.List.{get_or-set_same}
@@ -26,19 +26,16 @@ use Rattle.rig.specs.Parts.{operations_of, fixed_operation}
 use Rattle.rig.specs.State.{State, no_job, no_tally, jobs_of, job_of, tally_of, jobs_with}
 use Rattle.rig.specs.Slot.{first_job, granted_work, work_of, next_work, event_of, next_entry, device_after}
 use Rattle.rig.specs.Slot.{with_operation, with_idle, with_used, jobs_after, tallies_after, slot_refusal, with_slot}
-use Rattle.rig.specs.Requests.{release_refusal, withdraw_refusal, with_release}
-use Rattle.rig.specs.Requests.{with_withdrawal, job_from_now, withdrawn_job}
-use Rattle.rig.specs.declared.reply.Reply.TheVariants.{Withdrawn, Told}
-use Rattle.rig.specs.Calls.{PlanCall, release, withdraw, question, names}
+use Rattle.rig.specs.Calls.{PlanCall, guest_of, is_named, names}
 use Rattle.rig.specs.Replies.{NumberedAnswer, reply_numbers}
-use Rattle.runs.specs.Entries.{is_grant}
+use Rattle.runs.specs.TraceEntries.{is_grant}
 use Rattle.rig.specs.Step.{answer_unless, change_unless, effect, answer_in, state_after, meaning_after}
-use Rattle.runs.proofs.Effects.{PassesNoSlot, Kind, slots, releases, withdraws, keeps, kind, holds_unless, kept_after}
+use Rattle.runs.proofs.Effects.{SameTo, AnsweredAlike, AnsweredByGuest, CallKind, slots, puts_job, keeps, call_kind}
+use Rattle.runs.proofs.Effects.{PassesNoSlot, holds_unless, kept_after}
 use Rattle.runs.proofs.RegisterWindows.{AlikeTo, alike_to_itself, same_operation, same_access, same_outside}
 use Rattle.runs.proofs.RegisterWindows.{other_outside, operation_inside, operation_fits, fixed_fits}
-use Rattle.runs.proofs.Requests.{releasable, withdrawable}
-use Rattle.runs.proofs.Slots.{entry_at, granted_jobs, granted_tallies, idle_tallies, row_here}
-use Rattle.runs.proofs.Slots.{row_elsewhere, row_of_other, tally_of_other, first_pending}
+use Rattle.runs.proofs.JobSlots.{event_entry, granted_jobs, granted_tallies, idle_tallies, row_here}
+use Rattle.runs.proofs.JobSlots.{row_elsewhere, row_of_other, tally_of_other, first_pending}
 use Rattle.runs.proofs.Ready.{Ready, job_ready}
 
 -- two loaded rigs have the same jobs and the same tally of guest i, and devices that are alike to it
@@ -60,25 +57,22 @@ tied_trans p i l r m s n t a b = record {
 foreign_row : (s : State) (i : ℕ) (c : PlanCall) → names (i + 1) c ≡ false → (state_after s c).passed ≡ s.passed
     → jobs_of (state_after s c) i ≡ jobs_of s i
 unfolding state_after
-foreign_row s i c other stays = by c (kind s c) other stays
+foreign_row s i c other stays = by c (call_kind c) other stays
   where
     passes : (r : Option Decline) → (change_unless r (with_slot s) s).passed ≡ s.passed
         → jobs_of (change_unless r (with_slot s) s) i ≡ jobs_of s i
     passes None more = absurd (omega (arith, more))
     passes (Some d) same = refl
 
-    by : (d : PlanCall) → Kind s d → names (i + 1) d ≡ false → (state_after s d).passed ≡ s.passed
+    by : (d : PlanCall) → CallKind d → names (i + 1) d ≡ false → (state_after s d).passed ≡ s.passed
         → jobs_of (state_after s d) i ≡ jobs_of s i
     by d slots foreign same = passes (slot_refusal s) same
-    by d (releases g k m) foreign same =
-        holds_unless (λ t. jobs_of t i ≡ jobs_of s i) (release_refusal s g k m) (with_release s g k m) s
-        (λ none. row_elsewhere s (g - 1) (k - 1) (job_from_now s g k m) i
-        (λ e. eqb-false g (i + 1) foreign (omega (arith, e, (releasable s g k m none).known.guest_from)))) refl
-    by d (withdraws g k) foreign same =
-        holds_unless (λ t. jobs_of t i ≡ jobs_of s i) (withdraw_refusal s g k) (with_withdrawal s g k) s
-        (λ none. row_elsewhere s (g - 1) (k - 1) (withdrawn_job (job_of s (g - 1) (k - 1))) i
-        (λ e. eqb-false g (i + 1) foreign (omega (arith, e, (withdrawable s g k none).guest_from)))) refl
-    by d (keeps _ quiet) foreign same = kept_after (λ t. jobs_of t i) s d (ap (λ t. jobs_of t i) quiet.state)
+    by d (puts_job _ g k j puts) foreign same =
+        holds_unless (λ t. jobs_of t i ≡ jobs_of s i) (effect s d).refusal (effect s d).state s
+        (λ none. ap (λ t. jobs_of t i) (puts.state s) ∙ row_elsewhere s (g - 1) (k - 1) (j s) i
+        (λ e. eqb-false g (i + 1) (sym (ap (is_named (i + 1)) puts.named) ∙ foreign)
+        (omega (arith, e, (puts.known s none).guest_from)))) refl
+    by d (keeps _ quiet) foreign same = kept_after (λ t. jobs_of t i) s d (ap (λ t. jobs_of t i) (quiet.state s))
 
 -- such a call leaves what guest i sees
 pub foreign_tied : (p : Plan) (i : ℕ) (m : Meaning) (s : State) (c : PlanCall) (a : NumberedAnswer)
@@ -99,25 +93,11 @@ module _ (p : Plan) (i : ℕ) (within : i < length p.guests) (few : length p.gue
   same_plan : s.plan ≡ t.plan
   same_plan = ready.plan ∙ sym ready′.plan
 
-  -- the jobs of guest i are the same, by its number from 1
-  own_row : (g : ℕ) → names (i + 1) (question g) ≡ true → jobs_of s (g - 1) ≡ jobs_of t (g - 1)
-  own_row g own =
-      let e : i ≡ g - 1 = omega (arith, eqb-true g (i + 1) own) in
-      subst (λ h. jobs_of s h ≡ jobs_of t h) e tied.row
-
-  -- a release by guest i is refused alike
-  own_release_refusal : (g k l : ℕ) → (g == i + 1) ≡ true → release_refusal s g k l ≡ release_refusal t g k l
-  own_release_refusal g k l own =
-      let job : job_of s (g - 1) (k - 1) ≡ job_of t (g - 1) (k - 1) =
-      ap (λ row. get_or row (k - 1) no_job) (own_row g own) in
-      rw (same_plan, time, job) refl
-
-  -- a withdrawal by guest i is refused alike
-  own_withdraw_refusal : (g k : ℕ) → (g == i + 1) ≡ true → withdraw_refusal s g k ≡ withdraw_refusal t g k
-  own_withdraw_refusal g k own =
-      let job : job_of s (g - 1) (k - 1) ≡ job_of t (g - 1) (k - 1) =
-      ap (λ row. get_or row (k - 1) no_job) (own_row g own) in
-      rw (same_plan, job) refl
+  -- they are the same to guest i, by its number from 1
+  same_to : SameTo (i + 1) s t
+  same_to =
+      let e : i + 1 - 1 ≡ i = omega arith in
+      record { plan = same_plan; passed = time; row = rw e tied.row; tally = rw e tied.tally }
 
   -- a job of guest i is in its place among them, by any number that is i
   row_at : (u : State) → i < length u.jobs → (g k : ℕ) (j : Job) → i ≡ g
@@ -145,46 +125,47 @@ module _ (p : Plan) (i : ℕ) (within : i < length p.guests) (few : length p.gue
 
   -- what a call does to both rigs is the same as far as guest i can tell
   record SameEffect (c : PlanCall) : Type 0 where
-    refusal : (effect s c).refusal ≡ (effect t c).refusal
-    reply : (effect s c).reply m ≡ (effect t c).reply n
+    answered : AnsweredAlike c s t
     row : jobs_of (effect s c).state i ≡ jobs_of (effect t c).state i
 
-  -- so it is of each call that names it
+  -- a call is answered alike if it names guest i and is answered by what the guest sees that it names
+  own_answered : (c : PlanCall) (r : Option ℕ) → is_named (i + 1) r ≡ true → AnsweredByGuest c r → AnsweredAlike c s t
+  own_answered c None own by = absurd cc
+  own_answered c (Some g) own by =
+      by s t (subst (λ h. SameTo h s t) (sym (eqb-true g (i + 1) own)) same_to)
+
+  -- what each call does that names guest i is the same as far as it can tell
   own_effect : (c : PlanCall) → names (i + 1) c ≡ true → SameEffect c
-  own_effect (release g k l) own =
-      let same : job_from_now s g k l ≡ job_from_now t g k l = rw (same_plan, time) refl in
-      record {
-        refusal = own_release_refusal g k l own;
-        reply = rw (same_plan, time) refl;
-        row = row_alike (g - 1) (k - 1) (job_from_now s g k l) (job_from_now t g k l)
-            (omega (arith, eqb-true g (i + 1) own)) same;
+  own_effect c own = by c (call_kind c) own
+    where
+      by : (d : PlanCall) → CallKind d → names (i + 1) d ≡ true → SameEffect d
+      by d slots own = absurd cc
+      by d (puts_job _ g k j puts) own =
+          let e : g ≡ i + 1 = eqb-true g (i + 1) (sym (ap (is_named (i + 1)) puts.named) ∙ own) in
+          let same : SameTo g s t = subst (λ h. SameTo h s t) (sym e) same_to in
+          record {
+            answered = puts.alike s t same;
+            row = ap (λ u. jobs_of u i) (puts.state s)
+                ∙ row_alike (g - 1) (k - 1) (j s) (j t) (omega (arith, e)) (puts.same_job s t same)
+                ∙ sym (ap (λ u. jobs_of u i) (puts.state t));
+          }
+      by d (keeps _ quiet) own = record {
+        answered = own_answered d (guest_of d) own quiet.alike;
+        row = ap (λ u. jobs_of u i) (quiet.state s) ∙ tied.row ∙ sym (ap (λ u. jobs_of u i) (quiet.state t));
       }
-  own_effect (withdraw g k) own = record {
-    refusal = own_withdraw_refusal g k own;
-    reply = ap (λ row. Withdrawn (get_or row (k - 1) no_job).done) (own_row g own);
-    row = row_alike (g - 1) (k - 1) (withdrawn_job (job_of s (g - 1) (k - 1)))
-        (withdrawn_job (job_of t (g - 1) (k - 1))) (omega (arith, eqb-true g (i + 1) own))
-        (ap (λ row. withdrawn_job (get_or row (k - 1) no_job)) (own_row g own));
-  }
-  own_effect (question g) own =
-      let e : i ≡ g - 1 = omega (arith, eqb-true g (i + 1) own) in
-      record {
-        refusal = rw same_plan refl;
-        reply = ap Told (subst (λ h. tally_of s h ≡ tally_of t h) e tied.tally);
-        row = tied.row;
-      }
-  own_effect _ own = absurd cc
 
   -- a call that names guest i has the same answer
   pub own_answer : (c : PlanCall) → names (i + 1) c ≡ true → answer_in m s c ≡ answer_in n t c
   unfolding answer_in
-  own_answer c own = ap₂ (λ r x. answer_unless r (reply_numbers x)) (own_effect c own).refusal (own_effect c own).reply
+  own_answer c own =
+      let alike = (own_effect c own).answered in
+      ap₂ (λ r x. answer_unless r (reply_numbers x)) alike.refusal (alike.reply m n)
 
   -- and leaves its jobs the same
   own_row_after : (c : PlanCall) → names (i + 1) c ≡ true → jobs_of (state_after s c) i ≡ jobs_of (state_after t c) i
   unfolding state_after
   own_row_after c own =
-      alike_unless (effect s c).refusal (effect t c).refusal (own_effect c own).refusal (effect s c).state
+      alike_unless (effect s c).refusal (effect t c).refusal (own_effect c own).answered.refusal (effect s c).state
       (effect t c).state (own_effect c own).row
 
   -- such a call leaves the rigs alike to it
@@ -205,8 +186,8 @@ module _ (p : Plan) (i : ℕ) (within : i < length p.guests) (few : length p.gue
     device : AlikeTo (guest_at p.guests i) (device_after m w) (device_after n w′)
     row : get_or (jobs_after s w) i [] ≡ get_or (jobs_after t w′) i []
     tally : get_or (tallies_after s w) i no_tally ≡ get_or (tallies_after t w′) i no_tally
-    event : (((q : ℕ) → is_grant (i + 1) (fields_of (entry_at q (event_of m w))) ≡ false)
-        × ((q : ℕ) → is_grant (i + 1) (fields_of (entry_at q (event_of n w′))) ≡ false))
+    event : (((q : ℕ) → is_grant (i + 1) (fields_of (event_entry q (event_of m w))) ≡ false)
+        × ((q : ℕ) → is_grant (i + 1) (fields_of (event_entry q (event_of n w′))) ≡ false))
         ⊎ (event_of m w ≡ event_of n w′)
 
   -- the changed tally of guest i is in its place
@@ -274,7 +255,7 @@ record UnseenBy (p : Plan) (i : ℕ) (m : Meaning) (s : State) (w : Work) : Type
   device : AlikeTo (guest_at p.guests i) (device_after m w) m
   row : get_or (jobs_after s w) i [] ≡ jobs_of s i
   tally : get_or (tallies_after s w) i no_tally ≡ tally_of s i
-  event : (q : ℕ) → is_grant (i + 1) (fields_of (entry_at q (event_of m w))) ≡ false
+  event : (q : ℕ) → is_grant (i + 1) (fields_of (event_entry q (event_of m w))) ≡ false
 
 -- a slot granted to another guest leaves what guest i sees, and its entry is no grant to it
 other_slot : (p : Plan) (registers : ℕ) → Accepted p registers → (i h : ℕ) → i < length p.guests → h < length p.guests
@@ -371,5 +352,5 @@ module _ (p : Plan) (registers : ℕ) (ok : Accepted p registers) (fit : ValuesF
       × (is_grant (i + 1) (fields_of (next_entry t n)) ≡ false))
       ⊎ (fields_of (next_entry s m) ≡ fields_of (next_entry t n))
   slot_seen = ⊎_elim (λ unseen. inl (unseen.0 s.passed, unseen.1 t.passed))
-      (λ e. inr (ap (λ (x : Event). fields_of (entry_at s.passed x)) e
-      ∙ ap (λ q. fields_of (entry_at q (event_of n (next_work t)))) time)) next_both.event
+      (λ e. inr (ap (λ (x : Event). fields_of (event_entry s.passed x)) e
+      ∙ ap (λ q. fields_of (event_entry q (event_of n (next_work t)))) time)) next_both.event

@@ -14,9 +14,9 @@ use Rattle.rig.specs.Calls.{PlanCall, load}
 use Rattle.rig.specs.Replies.{NumberedAnswer, reply_numbers}
 use Rattle.rig.specs.State.{State, state_at_load}
 use Rattle.rig.specs.Step.{RigState, fresh_rig, loaded_rig, answer_in, IsLoad, IsStep}
-use Rattle.runs.specs.Laws.{LoadedWith, DeclinedFresh}
+use Rattle.runs.specs.Laws.{LoadedWith, RefusedFresh}
 use Rattle.runs.specs.Traces.{Exchange, exchange, IsTrace}
-use Rattle.runs.proofs.Entries.{answers_around}
+use Rattle.runs.proofs.TraceEntries.{answers_around}
 use Rattle.runs.proofs.Loaded.{loaded_trace}
 
 -- the answer of an accepted load
@@ -39,13 +39,13 @@ pub record Loads (m : Meaning) (c : PlanCall) (a : NumberedAnswer) (r : RigState
   pub accepted : Accepted plan (register_count m)
   pub loaded : r ≡ loaded_rig m (state_at_load plan)
 
--- a call of a fresh rig is declined and changes nothing
+-- a call of a fresh rig is refused and changes nothing
 pub record Declines (m : Meaning) (c : PlanCall) (a : NumberedAnswer) (r : RigState) : Type 0 where
   pub numbers : DeclineNumbers
   pub answer : a ≡ Err numbers
   pub same : r ≡ fresh_rig m
 
--- each call of a fresh rig is an accepted load or is declined
+-- each call of a fresh rig is an accepted load or is refused
 fresh_step : (m : Meaning) (c : PlanCall) (a : NumberedAnswer) (r : RigState) → IsStep (fresh_rig m) c a r
     → Loads m c a r ⊎ Declines m c a r
 unfolding IsLoad
@@ -74,15 +74,15 @@ unfolding IsLoad
 first_load m p r (said, ok, fit, is) = (ok, fit, is)
 
 -- in a run of a fresh rig with an accepted load the plan is accepted,
--- every call before was declined and changed nothing, and the calls since go on from a rig loaded with the plan
+-- every call before was refused and changed nothing, and the calls since go on from a rig loaded with the plan
 loads_at : (m : Meaning) (p : Plan) (before since : List Exchange) (after : RigState)
     → IsTrace (fresh_rig m) (before ++ exchange (load p) accepted_load ∷ since) after
-    → Accepted p (register_count m) × ValuesFit p × All (DeclinedFresh m) before
+    → Accepted p (register_count m) × ValuesFit p × All (RefusedFresh m) before
     × IsTrace (loaded_rig m (state_at_load p)) since after
 unfolding IsTrace
 loads_at m p [] since after (next, first, rest) =
     let (ok, fit, is) = first_load m p next first in
-    (ok, fit, All-nil (DeclinedFresh m), subst (λ u. IsTrace u since after) is rest)
+    (ok, fit, All-nil (RefusedFresh m), subst (λ u. IsTrace u since after) is rest)
 loads_at m p (x ∷ before) since after (next, first, rest) =
     ⊎_elim
     (λ (l : Loads m x.call x.answer next).
@@ -94,10 +94,10 @@ loads_at m p (x ∷ before) since after (next, first, rest) =
     (subst (λ u. IsTrace u (before ++ exchange (load p) accepted_load ∷ since) after) q.same rest) in (
       ok,
       fit,
-      All-cons (DeclinedFresh m) x before
+      All-cons (RefusedFresh m) x before
           (record {
             numbers = q.numbers;
-            declined = q.answer;
+            refused = q.answer;
             fresh = subst (IsStep (fresh_rig m) x.call x.answer) q.same first;
           }) declined,
       goes,
@@ -107,7 +107,7 @@ loads_at m p (x ∷ before) since after (next, first, rest) =
 -- a run of a fresh rig with an accepted load, by the list of all its calls
 pub loads_once : (m : Meaning) (p : Plan) (all before since : List Exchange) (after : RigState)
     → IsTrace (fresh_rig m) all after → LoadedWith p all before since
-    → Accepted p (register_count m) × ValuesFit p × All (DeclinedFresh m) before
+    → Accepted p (register_count m) × ValuesFit p × All (RefusedFresh m) before
     × IsTrace (loaded_rig m (state_at_load p)) since after
 loads_once m p all before since after goes is =
     loads_at m p before since after (subst (λ xs. IsTrace (fresh_rig m) xs after) is goes)

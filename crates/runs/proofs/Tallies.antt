@@ -27,15 +27,15 @@ use Rattle.rig.specs.State.{no_job, no_tally, job_of, jobs_of, tally_at, tally_o
 use Rattle.rig.specs.Slot.{first_job, granted_work, work_of, next_work, event_of}
 use Rattle.rig.specs.Slot.{next_entry, completes, with_idle, with_used, tallies_after}
 use Rattle.rig.specs.Step.{answer_unless, effect, answer_in, state_after, meaning_after}
-use Rattle.runs.specs.Entries.{entries, is_grant, is_use, is_idle, size_by}
-use Rattle.runs.specs.Entries.{size_after, latest_size, finishes, finished_after}
+use Rattle.runs.specs.TraceEntries.{entries, is_grant, is_use, is_idle, size_by}
+use Rattle.runs.specs.TraceEntries.{size_after, latest_size, finishes, finished_after}
 use Rattle.runs.specs.Laws.{TellsTallies}
 use Rattle.runs.specs.Traces.{Exchange, exchange}
 use Rattle.runs.proofs.Loaded.{state_end, device_end, AnswersOf}
-use Rattle.runs.proofs.Requests.{element_set}
-use Rattle.runs.proofs.Slots.{entry_at, first_place, first_pending, granted_tallies, idle_tallies}
+use Rattle.runs.proofs.JobRequests.{element_set}
+use Rattle.runs.proofs.JobSlots.{event_entry, first_place, first_pending, granted_tallies, idle_tallies}
 use Rattle.runs.proofs.Effects.{PassesSlot, PassesNoSlot, passing_or_still, entry_passing}
-use Rattle.runs.proofs.Entries.{entries_passing, entries_still, plan_end, answers_around}
+use Rattle.runs.proofs.TraceEntries.{entries_passing, entries_still, plan_end, answers_around}
 use Rattle.runs.proofs.Ready.{Ready, job_ready, ready_after, ready_at_load}
 use Rattle.runs.proofs.JobSteps.{JobStep, stays, releases, withdraws, operates, job_step}
 
@@ -76,13 +76,13 @@ size_step m s c g k (operates asked says pending is) =
     (ap (λ a. cond (is_ok a) (size_by (g + 1) (k + 1) old c) old) (says m) ∙ ap (size_by (g + 1) (k + 1) old) asked)
 
 -- the job of each task has the size of the latest job that it released in some calls
-abbrev Sized : List Exchange → State → Type 0
-Sized past s = (g k : ℕ) → g < 16 → k < 8 → (job_of s g k).size ≡ latest_size (g + 1) (k + 1) 0 past
+abbrev HasLatestSizes : List Exchange → State → Type 0
+HasLatestSizes past s = (g k : ℕ) → g < 16 → k < 8 → (job_of s g k).size ≡ latest_size (g + 1) (k + 1) 0 past
 
 -- so it has after one call more
-sized_after : (p : Plan) (m : Meaning) (s : State) (past : List Exchange) (x : Exchange) → Ready p s
-    → x.answer ≡ answer_in m s x.call → Sized past s → Sized (past ++ x ∷ []) (state_after s x.call)
-sized_after p m s past x ready said sized g k guest task =
+latest_sizes_after : (p : Plan) (m : Meaning) (s : State) (past : List Exchange) (x : Exchange) → Ready p s
+    → x.answer ≡ answer_in m s x.call → HasLatestSizes past s → HasLatestSizes (past ++ x ∷ []) (state_after s x.call)
+latest_sizes_after p m s past x ready said sized g k guest task =
     size_step m s x.call g k (job_step p s ready g k guest task x.call)
     ∙ ap (λ n. size_after (g + 1) (k + 1) n (exchange x.call (answer_in m s x.call))) (sized g k guest task)
     ∙ ap (λ a. size_after (g + 1) (k + 1) (latest_size (g + 1) (k + 1) 0 past) (exchange x.call a)) (sym said)
@@ -107,7 +107,7 @@ change_counts ts i h past e change inside own foreign =
 
 -- an idle slot counts for its guest
 idle_counts : (n h : ℕ) (past : List Exchange) (t : Tally)
-    → CountsEntry h past (fields_of (entry_at n (event.Idle h))) t (with_idle t)
+    → CountsEntry h past (fields_of (event_entry n (event.Idle h))) t (with_idle t)
 idle_counts n h past t = record {
   granted = grind (arith, common_steps);
   used = omega arith;
@@ -118,7 +118,7 @@ idle_counts n h past t = record {
 -- a slot that a job uses counts for its guest, if the job is complete exactly where its position is its size
 used_counts : (n : ℕ) (s : State) (i l h k q d : ℕ) (a : Access) (past : List Exchange) (t : Tally)
     → completes (job_of s i l) ≡ (q == latest_size h k 0 past)
-    → CountsEntry h past (fields_of (entry_at n (event.Used h k q a d))) t (with_used (job_of s i l) t)
+    → CountsEntry h past (fields_of (event_entry n (event.Used h k q a d))) t (with_used (job_of s i l) t)
 used_counts n s i l h k q d a past t ends = record {
   granted = grind (arith, common_steps);
   used = grind (arith, common_steps);
@@ -128,7 +128,7 @@ used_counts n s i l h k q d a past t ends = record {
 
 -- an idle slot of guest h + 1 counts nothing for another guest
 idle_elsewhere : (n i h : ℕ) (past : List Exchange) (t : Tally) → (i ≡ h → ⊥)
-    → CountsEntry (i + 1) past (fields_of (entry_at n (event.Idle (h + 1)))) t t
+    → CountsEntry (i + 1) past (fields_of (event_entry n (event.Idle (h + 1)))) t t
 idle_elsewhere n i h past t apart = record {
   granted = grind (arith, common_steps);
   used = omega arith;
@@ -138,7 +138,7 @@ idle_elsewhere n i h past t apart = record {
 
 -- a slot that guest h + 1 uses counts nothing for another guest
 used_elsewhere : (n i h k q d : ℕ) (a : Access) (past : List Exchange) (t : Tally) → (i ≡ h → ⊥)
-    → CountsEntry (i + 1) past (fields_of (entry_at n (event.Used (h + 1) k q a d))) t t
+    → CountsEntry (i + 1) past (fields_of (event_entry n (event.Used (h + 1) k q a d))) t t
 used_elsewhere n i h k q d a past t apart = record {
   granted = grind (arith, common_steps);
   used = grind (arith, common_steps);
@@ -151,18 +151,18 @@ last_at_size : (size done n : ℕ) → done < size → size ≡ n → nat_le siz
 last_at_size size done n undone is = grind (arith, common_steps)
 
 module _ (p : Plan) (few : length p.guests ≤ 16) (m : Meaning) (s : State) (past : List Exchange) (ready : Ready p s)
-    (sized : Sized past s) (i : ℕ) (il : i < 16) where
+    (sized : HasLatestSizes past s) (i : ℕ) (il : i < 16) where
   -- guest i + 1 has a tally
   has_tally : i < length s.tallies
   has_tally = omega (arith, il, ready.counts)
 
   -- after a slot that is granted to guest h + 1 the tally of guest i + 1 counts its entry
   granted_counts : (h : ℕ) (r : Option ℕ) → h < 16 → first_job (jobs_of s h) ≡ r
-      → CountsEntry (i + 1) past (fields_of (entry_at s.passed (event_of m (granted_work s h r)))) (tally_of s i)
+      → CountsEntry (i + 1) past (fields_of (event_entry s.passed (event_of m (granted_work s h r)))) (tally_of s i)
       (tally_at (tallies_after s (granted_work s h r)) i)
   granted_counts h None hl is =
       rw (idle_tallies s h)
-      (change_counts s.tallies i h past (fields_of (entry_at s.passed (event.Idle (h + 1)))) with_idle has_tally
+      (change_counts s.tallies i h past (fields_of (event_entry s.passed (event.Idle (h + 1)))) with_idle has_tally
       (λ t. idle_counts s.passed (h + 1) past t) (λ t apart. idle_elsewhere s.passed i h past t apart))
   granted_counts h (Some k) hl is =
       let place : k < 8 = omega (arith, first_place s h k is, ready.rows.deep h hl) in
@@ -171,14 +171,14 @@ module _ (p : Plan) (few : length p.guests ≤ 16) (m : Meaning) (s : State) (pa
       last_at_size (job_of s h k).size (job_of s h k).done (latest_size (h + 1) (k + 1) 0 past) job.undone
       (sized h k hl place) in
       rw (granted_tallies s h k)
-      (change_counts s.tallies i h past (fields_of (entry_at s.passed (event_of m (granted_work s h (Some k)))))
+      (change_counts s.tallies i h past (fields_of (event_entry s.passed (event_of m (granted_work s h (Some k)))))
       (with_used (job_of s h k)) has_tally
       (λ t. used_counts s.passed s h k (h + 1) (k + 1) _ _ _ past t ends)
       (λ t apart. used_elsewhere s.passed i h (k + 1) _ _ _ past t apart))
 
   -- after a slot, whosever turn it is, the tally of guest i + 1 counts its entry
   slot_counts : (table : List ℕ) (gs : List Guest) (t : Turn) → gs ≡ p.guests → IsTurnOf table gs t
-      → CountsEntry (i + 1) past (fields_of (entry_at s.passed (event_of m (work_of s t)))) (tally_of s i)
+      → CountsEntry (i + 1) past (fields_of (event_entry s.passed (event_of m (work_of s t)))) (tally_of s i)
       (tally_at (tallies_after s (work_of s t)) i)
   slot_counts table gs Unassigned guests whose = record {
     granted = omega arith;
@@ -204,22 +204,22 @@ module _ (p : Plan) (few : length p.guests ≤ 16) (m : Meaning) (s : State) (pa
       (turn_of_session s.plan.table s.plan.guests s.passed)
 
 -- a tally becomes another by what some calls, after others, count for guest g
-record Counts (g : ℕ) (past xs : List Exchange) (before after : Tally) : Type 0 where
+record CountsCalls (g : ℕ) (past xs : List Exchange) (before after : Tally) : Type 0 where
   granted : after.granted ≡ before.granted + count_by (is_grant g) (entries xs)
   used : after.used ≡ before.used + count_by (is_use g) (entries xs)
   idle : after.idle ≡ before.idle + count_by (is_idle g) (entries xs)
   finished : after.finished ≡ before.finished + finished_after g past xs
 
 -- a tally that stays counts no calls
-counts_none : (g : ℕ) (past : List Exchange) (t : Tally) → Counts g past [] t t
+counts_none : (g : ℕ) (past : List Exchange) (t : Tally) → CountsCalls g past [] t t
 unfolding entries finished_after
 counts_none g past t = record { granted = omega arith; used = omega arith; idle = omega arith; finished = omega arith }
 
 -- a tally that counts the entry of a slot and then other calls counts them all
 counts_slot : (g : ℕ) (past : List Exchange) (x : Exchange) (xs : List Exchange) (e : Fields)
     (before between after : Tally) → entry_of x.answer ≡ Some e → entries (x ∷ xs) ≡ e ∷ entries xs
-    → CountsEntry g past e before between → Counts g (past ++ x ∷ []) xs between after
-    → Counts g past (x ∷ xs) before after
+    → CountsEntry g past e before between → CountsCalls g (past ++ x ∷ []) xs between after
+    → CountsCalls g past (x ∷ xs) before after
 unfolding finished_after
 counts_slot g past x xs e before between after brings is first rest = record {
   granted = rw is (omega (arith, first.granted, rest.granted, sum_by-cons (λ f. one_if (is_grant g f)) e (entries xs)));
@@ -231,7 +231,7 @@ counts_slot g past x xs e before between after brings is first rest = record {
 -- a call that brings no entry counts nothing
 counts_still : (g : ℕ) (past : List Exchange) (x : Exchange) (xs : List Exchange) (before after : Tally)
     → entry_of x.answer ≡ None → entries (x ∷ xs) ≡ entries xs
-    → Counts g (past ++ x ∷ []) xs before after → Counts g past (x ∷ xs) before after
+    → CountsCalls g (past ++ x ∷ []) xs before after → CountsCalls g past (x ∷ xs) before after
 unfolding finished_after
 counts_still g past x xs before after none is rest = record {
   granted = rw is rest.granted;
@@ -242,15 +242,15 @@ counts_still g past x xs before after none is rest = record {
 
 -- over calls the tally of guest i + 1 counts them
 tallies_count : (p : Plan) → length p.guests ≤ 16 → (m : Meaning) (s : State) (past xs : List Exchange) → Ready p s
-    → Sized past s → AnswersOf m s xs → (i : ℕ) → i < 16
-    → Counts (i + 1) past xs (tally_of s i) (tally_of (state_end s xs) i)
+    → HasLatestSizes past s → AnswersOf m s xs → (i : ℕ) → i < 16
+    → CountsCalls (i + 1) past xs (tally_of s i) (tally_of (state_end s xs) i)
 unfolding AnswersOf state_end
 tallies_count p few m s past [] ready sized all i il = counts_none (i + 1) past (tally_of s i)
 tallies_count p few m s past (x ∷ xs) ready sized (first, rest) i il =
     let next = state_after s x.call in
     let others =
     tallies_count p few (meaning_after m s x.call) next (past ++ x ∷ []) xs (ready_after p s x.call ready)
-    (sized_after p m s past x ready first sized) rest i il in
+    (latest_sizes_after p m s past x ready first sized) rest i il in
     ⊎_elim
     (λ (q : PassesSlot m s x.call x.answer).
     counts_slot (i + 1) past x xs (fields_of (next_entry s m)) (tally_of s i) (tally_of next i)
@@ -262,7 +262,7 @@ tallies_count p few m s past (x ∷ xs) ready sized (first, rest) i il =
     (λ (q : PassesNoSlot m s x.call x.answer).
     counts_still (i + 1) past x xs (tally_of s i) (tally_of (state_end next xs) i) q.no_entry (entries_still m s x xs q)
     (subst
-    (λ ts. Counts (i + 1) (past ++ x ∷ []) xs (tally_at ts i) (tally_of (state_end next xs) i)) q.tallies others))
+    (λ ts. CountsCalls (i + 1) (past ++ x ∷ []) xs (tally_at ts i) (tally_of (state_end next xs) i)) q.tallies others))
     (passing_or_still m s x.call x.answer first)
 
 -- a question that is told a tally names a guest, and is told the tally of that guest
@@ -272,7 +272,7 @@ unfolding answer_in
 told_tally m s g t is = (grind (arith, common_steps), grind (arith, common_steps), grind (arith, common_steps))
 
 -- before the first call each job has no size
-sized_at_load : (p : Plan) → Sized [] (state_at_load p)
+sized_at_load : (p : Plan) → HasLatestSizes [] (state_at_load p)
 unfolding latest_size
 sized_at_load p g k guest task =
     ap (λ row. (get_or row k no_job).size) (get_or-replicate 16 g row_at_start [] guest)
@@ -293,10 +293,10 @@ tallies_told p registers ok m xs all g t past later is =
     let counts =
     tallies_count p ok.form.sizes.guests.few m s [] past (ready_at_load p) (sized_at_load p) front (g - 1) few in
     let this : g - 1 + 1 ≡ g = omega (arith, from) in
-    let is_told : Counts g [] past no_tally t =
-    subst (λ k. Counts k [] past no_tally t) this
-    (subst (λ u. Counts (g - 1 + 1) [] past no_tally u) (sym told)
-    (subst (λ u. Counts (g - 1 + 1) [] past u (tally_of (state_end s past) (g - 1))) zero counts)) in
+    let is_told : CountsCalls g [] past no_tally t =
+    subst (λ k. CountsCalls k [] past no_tally t) this
+    (subst (λ u. CountsCalls (g - 1 + 1) [] past no_tally u) (sym told)
+    (subst (λ u. CountsCalls (g - 1 + 1) [] past u (tally_of (state_end s past) (g - 1))) zero counts)) in
     record {
       granted = omega (arith, is_told.granted);
       used = omega (arith, is_told.used);

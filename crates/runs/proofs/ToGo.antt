@@ -8,7 +8,7 @@ use Rattle.schedule.proofs.Waiting.{by_rank}
 use Rattle.rig.specs.declared.job.Job.{Job}
 use Rattle.rig.specs.State.{State, no_job, job_rank, is_pending}
 use Rattle.rig.specs.Slot.{with_operation}
-use Rattle.runs.proofs.Requests.{Started}
+use Rattle.runs.proofs.JobRequests.{StartsJob}
 
 -- how many operations of a job are to go
 abbrev pub to_go : Job → ℕ
@@ -31,7 +31,7 @@ pub to_go_operated : (j : Job) → j.pending ≡ true → j.done < j.size → to
 to_go_operated j pending undone = one_less_to_go j (some_to_go j pending undone)
 
 -- of a job that starts all are to go
-pub to_go_started : (p : Plan) (s : State) (g k n : ℕ) (j : Job) → Started p s g k n j → to_go j ≡ n
+pub to_go_started : (p : Plan) (s : State) (g k n : ℕ) (j : Job) → StartsJob p s g k n j → to_go j ≡ n
 to_go_started p s g k n j new =
     let pending = new.pending in
     let size = new.size in

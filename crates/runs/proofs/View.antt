@@ -15,7 +15,7 @@ use Rattle.rig.specs.Replies.{entry_of}
 use Rattle.rig.specs.State.{State, state_at_load}
 use Rattle.rig.specs.Slot.{slot_refusal, next_entry}
 use Rattle.rig.specs.Step.{answer_in, state_after, meaning_after}
-use Rattle.runs.specs.Entries.{entry_before, entries, slots_passed, is_grant, grants_among}
+use Rattle.runs.specs.TraceEntries.{entry_before, entries, slots_passed, is_grant, grants_among}
 use Rattle.runs.specs.Laws.{calls_at, answers_to, SameView, CallsAlike}
 use Rattle.runs.specs.Traces.{Exchange}
 use Rattle.runs.proofs.Loaded.{device_end, AnswersOf, with_answers}
@@ -32,30 +32,30 @@ own_part g (x ∷ xs) =
     (cond (names g x.call) (x.call ∷ own_part g xs) (own_part g xs))
 
 -- calls 0, a slot, calls 1, a slot, and so on to the calls after slot n
-unfoldable woven : (ℕ → List PlanCall) → ℕ → List PlanCall
-woven calls zero = calls 0
-woven calls (suc n) = calls 0 ++ slot ∷ woven (λ k. calls (suc k)) n
+unfoldable interleave : (ℕ → List PlanCall) → ℕ → List PlanCall
+interleave calls zero = calls 0
+interleave calls (suc n) = calls 0 ++ slot ∷ interleave (λ k. calls (suc k)) n
 
--- the same calls at each place are woven to the same
-woven_same : (n : ℕ) (f h : ℕ → List PlanCall) → ((k : ℕ) → f k ≡ h k) → woven f n ≡ woven h n
-unfolding woven
-woven_same zero f h same = same 0
-woven_same (suc n) f h same =
-    ap (λ cs. cs ++ slot ∷ woven (λ k. f (suc k)) n) (same 0)
-    ∙ ap (λ ds. h 0 ++ slot ∷ ds) (woven_same n (λ k. f (suc k)) (λ k. h (suc k)) (λ k. same (suc k)))
+-- the same calls at each place are interleaved to the same
+interleave_same : (n : ℕ) (f h : ℕ → List PlanCall) → ((k : ℕ) → f k ≡ h k) → interleave f n ≡ interleave h n
+unfolding interleave
+interleave_same zero f h same = same 0
+interleave_same (suc n) f h same =
+    ap (λ cs. cs ++ slot ∷ interleave (λ k. f (suc k)) n) (same 0)
+    ∙ ap (λ ds. h 0 ++ slot ∷ ds) (interleave_same n (λ k. f (suc k)) (λ k. h (suc k)) (λ k. same (suc k)))
 
 -- one call more before the first slot comes first
-woven_first : (c : PlanCall) (n : ℕ) (f h : ℕ → List PlanCall) → f 0 ≡ c ∷ h 0 → ((k : ℕ) → f (suc k) ≡ h (suc k))
-    → woven f n ≡ c ∷ woven h n
-unfolding woven
-woven_first c zero f h first same = first
-woven_first c (suc n) f h first same =
-    ap (λ cs. cs ++ slot ∷ woven (λ k. f (suc k)) n) first
-    ∙ ap (λ ds. c ∷ h 0 ++ slot ∷ ds) (woven_same n (λ k. f (suc k)) (λ k. h (suc k)) same)
+interleave_first : (c : PlanCall) (n : ℕ) (f h : ℕ → List PlanCall) → f 0 ≡ c ∷ h 0 → ((k : ℕ) → f (suc k) ≡ h (suc k))
+    → interleave f n ≡ c ∷ interleave h n
+unfolding interleave
+interleave_first c zero f h first same = first
+interleave_first c (suc n) f h first same =
+    ap (λ cs. cs ++ slot ∷ interleave (λ k. f (suc k)) n) first
+    ∙ ap (λ ds. c ∷ h 0 ++ slot ∷ ds) (interleave_same n (λ k. f (suc k)) (λ k. h (suc k)) same)
 
--- the calls of a guest with the slots are woven of its calls before each slot and after the last
-weave : (g : ℕ) (xs : List Exchange) → own_part g xs ≡ woven (λ n. calls_at g n xs) (slots_passed xs)
-unfolding own_part calls_at entries woven
+-- the calls of a guest with the slots are its calls before each slot and after the last, with a slot between them
+weave : (g : ℕ) (xs : List Exchange) → own_part g xs ≡ interleave (λ n. calls_at g n xs) (slots_passed xs)
+unfolding own_part calls_at entries interleave
 weave g [] = refl
 weave g (x ∷ xs) = go (entry_of x.answer) (names g x.call) (weave g xs)
   where
@@ -67,24 +67,24 @@ weave g (x ∷ xs) = go (entry_of x.answer) (names g x.call) (weave g xs)
     unnamed zero = refl
     unnamed (suc n) = refl
 
-    still : (named : Bool) → own_part g xs ≡ woven (λ n. calls_at g n xs) (slots_passed xs)
-        → cond named (x.call ∷ own_part g xs) (own_part g xs) ≡ woven (at false named) (slots_passed xs)
+    still : (named : Bool) → own_part g xs ≡ interleave (λ n. calls_at g n xs) (slots_passed xs)
+        → cond named (x.call ∷ own_part g xs) (own_part g xs) ≡ interleave (at false named) (slots_passed xs)
     still true rest =
         ap (λ cs. x.call ∷ cs) rest
-        ∙ sym (woven_first x.call (slots_passed xs) (at false true) (λ n. calls_at g n xs) refl (λ n. refl))
-    still false rest = rest ∙ woven_same (slots_passed xs) (λ n. calls_at g n xs) (at false false) unnamed
+        ∙ sym (interleave_first x.call (slots_passed xs) (at false true) (λ n. calls_at g n xs) refl (λ n. refl))
+    still false rest = rest ∙ interleave_same (slots_passed xs) (λ n. calls_at g n xs) (at false false) unnamed
 
-    go : (a : Option Fields) (named : Bool) → own_part g xs ≡ woven (λ n. calls_at g n xs) (slots_passed xs)
+    go : (a : Option Fields) (named : Bool) → own_part g xs ≡ interleave (λ n. calls_at g n xs) (slots_passed xs)
         → cond (is_some a) (slot ∷ own_part g xs) (cond named (x.call ∷ own_part g xs) (own_part g xs))
-        ≡ woven (at (is_some a) named) (length (entry_before a (entries xs)))
+        ≡ interleave (at (is_some a) named) (length (entry_before a (entries xs)))
     go None named rest = still named rest
     go (Some e) named rest = ap (λ cs. slot ∷ cs) rest
 
 -- a guest that asks alike in two runs makes the same calls with the slots between them
 same_part : (g : ℕ) (xs ys : List Exchange) → CallsAlike g xs ys → own_part g xs ≡ own_part g ys
 same_part g xs ys alike =
-    weave g xs ∙ woven_same (slots_passed xs) (λ n. calls_at g n xs) (λ n. calls_at g n ys) alike.calls
-    ∙ ap (woven (λ n. calls_at g n ys)) alike.slots ∙ sym (weave g ys)
+    weave g xs ∙ interleave_same (slots_passed xs) (λ n. calls_at g n xs) (λ n. calls_at g n ys) alike.calls
+    ∙ ap (interleave (λ n. calls_at g n ys)) alike.slots ∙ sym (weave g ys)
 
 -- the first and the last of three views are the same, if the first two and the last two are
 view_trans : (p : Plan) (i : ℕ) (xs ys zs : List Exchange) (l m n : Meaning) → SameView p i xs ys l m

@@ -12,9 +12,9 @@ use Rattle.rig.specs.Requests.{withdrawn_job}
 use Rattle.rig.specs.Step.{change_unless}
 use Rattle.rig.specs.Calls.{PlanCall, slot}
 use Rattle.rig.specs.Step.{state_after}
-use Rattle.runs.proofs.Requests.{Started}
+use Rattle.runs.proofs.JobRequests.{StartsJob}
 use Rattle.runs.proofs.ToGo.{some_to_go, to_go_started, stream_of, jobs}
-use Rattle.runs.proofs.Slots.{grant_in, job_in, SlotFor, other, granted, slot_for}
+use Rattle.runs.proofs.JobSlots.{grant_in, job_in, SlotFor, other, granted, slot_for}
 use Rattle.runs.proofs.Ready.{Ready, job_ready}
 use Rattle.runs.proofs.JobSteps.{JobStep, stays, releases, withdraws, operates}
 
@@ -47,7 +47,7 @@ pub brings_by : (p : Plan) (s : State) (c : PlanCall) (g k : ℕ) → s.plan ≡
 brings_by p s c g k plan (stays same none) = brings_none p s c g k (middle_same s c g k same)
 brings_by p s c g k plan (releases n asked allowed new) =
     let after = job_of (state_after s c) g k in
-    let here : Started p s g k n after = subst (λ q. Started q s g k n after) plan new in
+    let here : StartsJob p s g k n after = subst (λ q. StartsJob q s g k n after) plan new in
     let ready : job_of (middle s c) g k ≡ after =
     ap (λ a. job_of (middle s a) g k) asked ∙ ap (λ a. job_of (state_after s a) g k) (sym asked) in
     rw ready (

@@ -17,13 +17,13 @@ use Rattle.rig.specs.Parts.{operations_of}
 use Rattle.rig.specs.Replies.{NumberedAnswer, reply_numbers, entry_of}
 use Rattle.rig.specs.Step.{RigState, fresh_rig, IsStep}
 use Rattle.runs.specs.Traces.{Exchange, exchange, IsTrace}
-use Rattle.runs.specs.Entries.{entries, slots_passed, entries_between, is_use, is_idle}
-use Rattle.runs.specs.Entries.{is_grant, is_use_by, grants_among, finished_in}
+use Rattle.runs.specs.TraceEntries.{entries, slots_passed, entries_between, is_use, is_idle}
+use Rattle.runs.specs.TraceEntries.{is_grant, is_use_by, grants_among, finished_in}
 
--- a call was declined, and a rig that was fresh before it is fresh after it
-pub record DeclinedFresh (m : Meaning) (x : Exchange) : Type 0 where
+-- a call was refused, and a rig that was fresh before it is fresh after it
+pub record RefusedFresh (m : Meaning) (x : Exchange) : Type 0 where
   pub numbers : DeclineNumbers
-  pub declined : x.answer ≡ Err numbers
+  pub refused : x.answer ≡ Err numbers
   pub fresh : IsStep (fresh_rig m) x.call x.answer (fresh_rig m)
 
 -- full budgets: in each period of a guest whose slots have all passed, exactly its budget of entries are grants to it
@@ -44,12 +44,12 @@ pub record InOrder (os : List Operation) (m : ℕ) (es : List Fields) : Type 0 w
   pub operations : (i : ℕ) (e : Fields) → slice_get es i ≡ Some e → CarriesOut (operation_at os i) e
 
 -- the answer of a release: the deadline of its job
-abbrev pub released : ℕ → NumberedAnswer
-released d = Ok (reply_numbers (Released d))
+abbrev pub release_answer : ℕ → NumberedAnswer
+release_answer d = Ok (reply_numbers (Released d))
 
 -- the answer of a withdrawal: how many operations of the job had their slot
-abbrev pub withdrawn_after : ℕ → NumberedAnswer
-withdrawn_after n = Ok (reply_numbers (Withdrawn n))
+abbrev pub withdraw_answer : ℕ → NumberedAnswer
+withdraw_answer n = Ok (reply_numbers (Withdrawn n))
 
 -- among some calls, before which n slots had passed, task k of guest g withdraws its job when fewer than d have passed
 pub record WithdrawnBefore (d n g k : ℕ) (xs : List Exchange) : Type 0 where
@@ -58,14 +58,14 @@ pub record WithdrawnBefore (d n g k : ℕ) (xs : List Exchange) : Type 0 where
   pub rest : List Exchange
   -- how many operations of the job had their slot
   pub done : ℕ
-  pub split : xs ≡ during ++ exchange (withdraw g k) (withdrawn_after done) ∷ rest
+  pub split : xs ≡ during ++ exchange (withdraw g k) (withdraw_answer done) ∷ rest
   pub early : n + slots_passed during < d
 
 -- deadlines kept: a job whose deadline is reached was withdrawn before it, or its operations had their slots, in order,
 -- from its start to before its deadline
 unfoldable pub MeetsDeadlines : Plan → List Exchange → Type 0
 MeetsDeadlines p xs =
-    (g k m d : ℕ) (past later : List Exchange) → xs ≡ past ++ exchange (release g k m) (released d) ∷ later
+    (g k m d : ℕ) (past later : List Exchange) → xs ≡ past ++ exchange (release g k m) (release_answer d) ∷ later
     → d ≤ slots_passed xs
     → WithdrawnBefore d (slots_passed past) g k later
     ⊎ InOrder (operations_of p (g - 1) (k - 1)) m (filter (is_use_by g k) (entries_between (slots_passed past) d xs))
@@ -96,7 +96,7 @@ unfoldable pub answers_to : ℕ → List Exchange → List NumberedAnswer
 answers_to g [] = []
 answers_to g (x ∷ xs) = cond (names g x.call) (x.answer ∷ answers_to g xs) (answers_to g xs)
 
--- what guest i sees of two runs is equal: its answers, declines too, its entries and the contents of its window
+-- what guest i sees of two runs is equal: its answers, refusals too, its entries and the contents of its window
 pub record SameView (p : Plan) (i : ℕ) (xs ys : List Exchange) (m n : Meaning) : Type 0 where
   pub answers : answers_to (i + 1) xs ≡ answers_to (i + 1) ys
   pub entries : grants_among (i + 1) (entries xs) ≡ grants_among (i + 1) (entries ys)
@@ -127,8 +127,8 @@ pub record AlikeRun (m : Meaning) (p : Plan) : Type 0 where
   pub after : RigState
   pub trace : IsTrace (fresh_rig device) all after
 
--- one guest's view: in any other run of a rig that is loaded alike, a guest whose calls are alike sees the same,
--- whatever the others ask
+-- one guest's view, a law of noninterference: in any other run of a rig that is loaded alike, a guest whose calls are
+-- alike sees the same, whatever the others ask
 unfoldable pub OneView : Meaning → Plan → List Exchange → RigState → Type 0
 OneView m p xs after = (other : AlikeRun m p) (i : ℕ) → i < length p.guests → CallsAlike (i + 1) xs other.since
     → SameView p i xs other.since after.device other.after.device

@@ -1,4 +1,4 @@
-pub mod Entries
+pub mod TraceEntries
 pub mod Laws
 pub mod Run
 pub mod Traces

@@ -9,7 +9,7 @@ use Rattle.rig.specs.Calls.{PlanCall}
 use Rattle.rig.specs.Replies.{answer_numbers}
 use Rattle.rig.specs.Step.{RigState, fresh_rig}
 use Rattle.runs.specs.Traces.{Exchange, exchanges, IsTrace}
-use Rattle.runs.specs.Laws.{DeclinedFresh, LoadedWith, FullBudgets, MeetsDeadlines, TellsTallies, OneView}
+use Rattle.runs.specs.Laws.{RefusedFresh, LoadedWith, FullBudgets, MeetsDeadlines, TellsTallies, OneView}
 
 -- how a rig came to be as it is before some calls, and where the load is among all calls since it was fresh
 pub record History (r : RigState) (xs : List Exchange) : Type 0 where
@@ -27,10 +27,10 @@ pub record History (r : RigState) (xs : List Exchange) : Type 0 where
 -- the law of a whole run, of calls that lead from one rig to another: all parts but the first speak of these calls and
 -- of all that were made before them since the rig was fresh, whatever they were and whatever the device
 pub record KeepsLaw (r : RigState) (xs : List Exchange) (after : RigState) : Type 0 where
-  -- each answer, and the rig afterwards, are those of the steps, one after another, declined calls included
+  -- each answer, and the rig afterwards, are those of the steps, one after another, refused calls included
   pub steps : IsTrace r xs after
-  -- each call before the load was declined, and changed nothing
-  pub before_load : (h : History r xs) → All (DeclinedFresh h.device) h.before
+  -- each call before the load was refused, and changed nothing
+  pub before_load : (h : History r xs) → All (RefusedFresh h.device) h.before
   -- each guest has its full budget in each of its periods
   pub budgets : (h : History r xs) → FullBudgets h.plan h.since
   -- each deadline is kept
@@ -41,8 +41,8 @@ pub record KeepsLaw (r : RigState) (xs : List Exchange) (after : RigState) : Typ
   pub one_view : (h : History r xs) → OneView h.device h.plan h.since after
 
 -- the first n calls, each with the answer in its place
-abbrev pub made_in : List PlanCall → List (Result Reply Decline) → ℕ → List Exchange
-made_in calls answers n = exchanges (take n calls) (map answer_numbers (take n answers))
+abbrev pub first_exchanges : List PlanCall → List (Result Reply Decline) → ℕ → List Exchange
+first_exchanges calls answers n = exchanges (take n calls) (map answer_numbers (take n answers))
 
 -- what `run` leaves of a rig and of places for answers, by how many calls it says that it made
 pub record IsRun (r : RigState) (calls : List PlanCall) (places answers : List (Result Reply Decline)) (n : ℕ)
@@ -54,4 +54,4 @@ pub record IsRun (r : RigState) (calls : List PlanCall) (places answers : List (
   -- the places past them hold what they held
   pub rest : drop n answers ≡ drop n places
   -- and the calls that are made keep the law
-  pub law : KeepsLaw r (made_in calls answers n) after
+  pub law : KeepsLaw r (first_exchanges calls answers n) after

@@ -13,7 +13,7 @@ pub record Exchange : Type 0 where
 abbrev pub exchange : PlanCall → NumberedAnswer → Exchange
 exchange c a = record { call = c; answer = a }
 
--- calls with their answers, in order
+-- calls with their answers, in order, up to the end of the shorter list
 unfoldable pub exchanges : List PlanCall → List NumberedAnswer → List Exchange
 exchanges [] as′ = []
 exchanges (c ∷ cs) [] = []
@@ -25,7 +25,7 @@ IsTrace r [] after = after ≡ r
 IsTrace r (x ∷ xs) after = (between : RigState) × IsStep r x.call x.answer between × IsTrace between xs after
 
 -- calls were made of a rig: there is an answer to each, and they are steps, one after another, to the rig afterwards
-pub record AreMade (r : RigState) (calls : List PlanCall) (answers : List NumberedAnswer)
+pub record IsAnsweredTrace (r : RigState) (calls : List PlanCall) (answers : List NumberedAnswer)
     (after : RigState) : Type 0 where
   pub one_each : length answers ≡ length calls
   pub steps : IsTrace r (exchanges calls answers) after

@@ -1,3 +1,3 @@
-pub mod Checks
+pub mod VerdictChecks
 pub mod Verdicts
 pub mod Samples

@@ -2,9 +2,9 @@
 use Rattle.std.proofs.Common.{[], ◌∷◌, Ok, Err, refl}
 use Rattle.decline.specs.declared.Decline.TheVariants.{LinkSpare, LinkDemand, GuestSpare, GuestDemand}
 use Rattle.decline.specs.Refusals.{numbers_of}
-use Rattle.admission.specs.Laws.{LinkSearchBound, TasksSearchBound, OneVerdict}
+use Rattle.admission.specs.AdmissionLaws.{LinkSearchBound, TasksSearchBound, OneVerdict}
 use Rattle.admission.specs.Verdict.{Accepted, Declined}
-use Rattle.samples.specs.Setups.{two_fixed, setup_a, setup_a_with, one_guest}
+use Rattle.samples.specs.Setups.{table_two_fixed, setup_a, setup_a_with, one_guest}
 use Rattle.samples.specs.Verdicts.{NeverDeclined}
 use Rattle.samples.proofs.Verdicts.{is_verdict?, is_verdict}
 
@@ -31,9 +31,9 @@ module _ (links : LinkSearchBound) (tasks : TasksSearchBound) where
   setup_a_budget_4_declined = is_verdict (setup_a_with 10 4) 64 links tasks (Err LinkSpare) refl
 
   -- a guest of budget 1 in period 2 on the table of two fixed slots is declined by number 8
-  pub two_fixed_declined : Declined (one_guest two_fixed 2 1) 64 (numbers_of (LinkDemand 2))
+  pub two_fixed_declined : Declined (one_guest table_two_fixed 2 1) 64 (numbers_of (LinkDemand 2))
   unfolding is_verdict?
-  two_fixed_declined = is_verdict (one_guest two_fixed 2 1) 64 links tasks (Err (LinkDemand 2)) refl
+  two_fixed_declined = is_verdict (one_guest table_two_fixed 2 1) 64 links tasks (Err (LinkDemand 2)) refl
 
   -- a guest of budget 1 in period 100 on the table of one free slot is accepted
   pub period_100_accepted : Accepted (one_guest (0 ∷ []) 100 1) 64

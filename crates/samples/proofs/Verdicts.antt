@@ -17,11 +17,11 @@ use Rattle.setups.specs.Supply.{supply, least_to, window_free, free_bytes}
 use Rattle.setups.specs.Demand.{servers_demand, tasks_demand, server_supply, share_down, server_shares, task_shares}
 use Rattle.setups.specs.Demand.{LinkHasSpare, LinkServed, TasksHaveSpare, GuestHasSpare, GuestServedAt, GuestServed}
 use Rattle.setups.specs.Limits.{SizesOk, FewTasks, ServerOk, window_end, WindowOk, TaskOk, OperationsOk}
-use Rattle.admission.specs.Laws.{LinkSearchBound, TasksSearchBound}
+use Rattle.admission.specs.AdmissionLaws.{LinkSearchBound, TasksSearchBound}
 use Rattle.admission.specs.Verdict.{FirstFailing, WellFormed, ScheduleFault, Declined, IsVerdict}
 use Rattle.setups.proofs.SlotWindows.{supply_law}
-use Rattle.samples.proofs.Checks.{Check, at_most, equal, fails, both, either, each, all, between, first}
-use Rattle.samples.proofs.Checks.{Says, passes?, holds}
+use Rattle.samples.proofs.VerdictChecks.{Check, at_most, equal, fails, both, either, each, all, between, first}
+use Rattle.samples.proofs.VerdictChecks.{Says, passes?, holds}
 
 -- a guest keeps rule 3
 abbrev server : Guest → Check

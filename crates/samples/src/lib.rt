@@ -7,14 +7,14 @@ ghost use Rattle.decline.specs.Refusals.{numbers_of};
 ghost use Rattle.setups.specs.declared.setup.Operation.TheVariants.{Write, Read};
 ghost use Rattle.setups.specs.Plan.{plan_of};
 ghost use Rattle.admission.specs.Verdict.{Accepted, Declined};
-ghost use Rattle.admission.specs.Laws.{LinkSearchBound, TasksSearchBound, OneVerdict};
-ghost use Rattle.samples.specs.Setups.{guest, task, two_fixed, setup_a, setup_a_with, one_guest};
+ghost use Rattle.admission.specs.AdmissionLaws.{LinkSearchBound, TasksSearchBound, OneVerdict};
+ghost use Rattle.samples.specs.Setups.{guest, task, table_two_fixed, setup_a, setup_a_with, one_guest};
 ghost use Rattle.samples.specs.Verdicts.{NeverDeclined};
 
 use admission::{Guest, Operation, Setup, Task, judge};
 
 /// How many registers the devices have for which the samples are judged.
-pub const REGISTERS: u32 = 64;
+pub const PANEL_REGISTERS: u32 = 64;
 
 /// The slot table of setup A: the first of every five slots is fixed.
 pub const TABLE_A: [u8; 10] = [1, 0, 0, 0, 0, 1, 0, 0, 0, 0];
@@ -92,7 +92,7 @@ const LONE_GUEST: Guest = Guest {
     task_count: 0,
 };
 
-// That guest by itself, with every slot free.
+// A guest without a task by itself, with every slot free.
 const LONE_SETUP: Setup<'static> = Setup {
     session: 40,
     table: &[0],
@@ -140,14 +140,14 @@ pub const fn guest(
     }
 }
 
-/// A task of this separation, cost and deadline.
-pub const fn task(separation: u32, cost: u32, deadline: u32) -> Task
-    ensures { result ≡ task separation cost deadline }
+/// A task of this separation, cost and relative deadline.
+pub const fn task(separation: u32, cost: u32, relative_deadline: u32) -> Task
+    ensures { result ≡ task separation cost relative_deadline }
 {
     Task {
         separation,
         cost,
-        relative_deadline: deadline,
+        relative_deadline,
     }
 }
 
@@ -170,8 +170,8 @@ pub const fn write(register: u8, value: u16) -> Operation
 #[tactic(auto, using(crate::proofs::Samples::setup_a_accepted))]
 pub fn setup_a() -> Setup<'static>
     ensures plan { plan_of result ≡ setup_a }
-    ensures accepted { Accepted setup_a REGISTERS }
-    ensures never_declined { NeverDeclined setup_a REGISTERS }
+    ensures accepted { Accepted setup_a PANEL_REGISTERS }
+    ensures never_declined { NeverDeclined setup_a PANEL_REGISTERS }
 {
     judge_laws();
     SETUP_A
@@ -181,7 +181,7 @@ pub fn setup_a() -> Setup<'static>
 #[tactic(auto, using(crate::proofs::Samples::setup_a_due_8_accepted))]
 pub fn setup_a_due_8() -> Setup<'static>
     ensures plan { plan_of result ≡ setup_a_with 8 3 }
-    ensures accepted { Accepted (setup_a_with 8 3) REGISTERS }
+    ensures accepted { Accepted (setup_a_with 8 3) PANEL_REGISTERS }
 {
     judge_laws();
     Setup {
@@ -200,7 +200,7 @@ pub fn setup_a_due_8() -> Setup<'static>
 /// of its guest gives.
 pub fn setup_a_due_7() -> Setup<'static>
     ensures plan { plan_of result ≡ setup_a_with 7 3 }
-    ensures declined { Declined (setup_a_with 7 3) REGISTERS (numbers_of (GuestDemand 1 7)) }
+    ensures declined { Declined (setup_a_with 7 3) PANEL_REGISTERS (numbers_of (GuestDemand 1 7)) }
 {
     judge_laws();
     Setup {
@@ -218,7 +218,7 @@ pub fn setup_a_due_7() -> Setup<'static>
 /// Setup A with budget 4 for guest 2. It is declined: the servers take all free slots, and leave no spare.
 pub fn setup_a_budget_4() -> Setup<'static>
     ensures plan { plan_of result ≡ setup_a_with 10 4 }
-    ensures declined { Declined (setup_a_with 10 4) REGISTERS (numbers_of LinkSpare) }
+    ensures declined { Declined (setup_a_with 10 4) PANEL_REGISTERS (numbers_of LinkSpare) }
 {
     judge_laws();
     Setup {
@@ -236,8 +236,8 @@ pub fn setup_a_budget_4() -> Setup<'static>
 /// One guest of budget 1 in period 2, and two fixed slots next to each other. It is declined: those two slots may be a
 /// period of the guest's, and leave it nothing.
 pub fn two_fixed() -> Setup<'static>
-    ensures plan { plan_of result ≡ one_guest two_fixed 2 1 }
-    ensures declined { Declined (one_guest two_fixed 2 1) REGISTERS (numbers_of (LinkDemand 2)) }
+    ensures plan { plan_of result ≡ one_guest table_two_fixed 2 1 }
+    ensures declined { Declined (one_guest table_two_fixed 2 1) PANEL_REGISTERS (numbers_of (LinkDemand 2)) }
 {
     judge_laws();
     Setup {
@@ -254,7 +254,7 @@ pub fn two_fixed() -> Setup<'static>
 #[tactic(auto, using(crate::proofs::Samples::period_100_accepted))]
 pub fn period_100() -> Setup<'static>
     ensures plan { plan_of result ≡ one_guest (0 ∷ []) 100 1 }
-    ensures accepted { Accepted (one_guest (0 ∷ []) 100 1) REGISTERS }
+    ensures accepted { Accepted (one_guest (0 ∷ []) 100 1) PANEL_REGISTERS }
 {
     judge_laws();
     LONE_SETUP
@@ -263,7 +263,7 @@ pub fn period_100() -> Setup<'static>
 /// One guest of budget 1 in period 101, with every slot free. It is declined: the budget is less than a hundredth.
 pub fn period_101() -> Setup<'static>
     ensures plan { plan_of result ≡ one_guest (0 ∷ []) 101 1 }
-    ensures declined { Declined (one_guest (0 ∷ []) 101 1) REGISTERS (numbers_of (GuestSpare 1)) }
+    ensures declined { Declined (one_guest (0 ∷ []) 101 1) PANEL_REGISTERS (numbers_of (GuestSpare 1)) }
 {
     judge_laws();
     Setup {

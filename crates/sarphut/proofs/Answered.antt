@@ -9,16 +9,16 @@ use Rattle.rig.specs.declared.reply.Reply.{Reply}
 use Rattle.rig.specs.Calls.{plan_call}
 use Rattle.rig.specs.Replies.{answer_numbers}
 use Rattle.rig.specs.Step.{RigState, fresh_rig}
-use Rattle.runs.specs.Run.{made_in}
+use Rattle.runs.specs.Run.{first_exchanges}
 use Rattle.runs.specs.Traces.{IsTrace}
-use Rattle.sarphut.specs.Answers.{AreAnswered}
+use Rattle.sarphut.specs.Answers.{IsPanelTrace}
 
 -- calls that are made with a place for each, the first of a list's room, are all answered
 pub each_answered : (calls : List Call) (answers rest : List (Result Reply Decline)) (n places : ℕ) (after : RigState)
     → places ≡ length calls → length answers ≡ places → n ≡ min (length (map plan_call calls)) places
-    → IsTrace (fresh_rig panel_at_start) (made_in (map plan_call calls) answers n) after
-    → AreAnswered (map plan_call calls) (map answer_numbers (take places (answers ++ rest)))
-unfolding AreAnswered
+    → IsTrace (fresh_rig panel_at_start) (first_exchanges (map plan_call calls) answers n) after
+    → IsPanelTrace (map plan_call calls) (map answer_numbers (take places (answers ++ rest)))
+unfolding IsPanelTrace
 each_answered calls answers rest n places after rooms same made trace =
     let counted : length (map plan_call calls) ≡ length calls = length-map calls plan_call in
     let asked : take n (map plan_call calls) ≡ map plan_call calls = take_all n (map plan_call calls) (omega arith) in

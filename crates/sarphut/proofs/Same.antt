@@ -11,7 +11,7 @@ use Rattle.journal.specs.declared.entries.Event.TheVariants.{Unassigned, Fixed, 
 use Rattle.journal.specs.declared.entries.Entry.{Entry}
 use Rattle.journal.specs.declared.blocks.Heading.{Heading}
 use Rattle.journal.specs.contracts.entries.EntryPartialEq.TheImpl as equals
-use Rattle.journal.specs.Calls.{ReadsBack, read_answer, places_after}
+use Rattle.journal.specs.WriteRead.{ReadsBack, block_read_answer, places_after}
 
 -- the count that a read answers
 abbrev count_of : Result Heading DeclineNumbers → ℕ
@@ -21,7 +21,7 @@ count_of (Err m) = 0
 -- the places below the count, after a read of what was written, are the entries
 pub came_back : (number : ℕ) (es : List Entry) (bytes : List ℕ) (places after : List Entry) (h : Heading)
     → ReadsBack number es bytes → length places ≡ 31
-    → Ok h ≡ read_answer bytes places → after ≡ places_after bytes places → take h.count after ≡ es
+    → Ok h ≡ block_read_answer bytes places → after ≡ places_after bytes places → take h.count after ≡ es
 came_back number es bytes places after h back long answer left =
     let counted : h.count ≡ length es = ap count_of (answer ∙ (back places long).0) in
     rw counted (rw left (rw (back places long).1 (take-append_seam es (drop (length es) places))))

@@ -2,17 +2,17 @@
 ghost use Rattle.std.specs.Prelude.{◌≡◌, length, replicate, Some};
 ghost use Rattle.decline.specs.Refusals.{by_numbers};
 ghost use Rattle.journal.specs.Blocks.{first_slot};
-ghost use Rattle.journal.specs.Calls.{write_answer};
-ghost use Rattle.sarphut.specs.Blocks.{same_after, block_line};
+ghost use Rattle.journal.specs.WriteRead.{block_write_answer};
+ghost use Rattle.sarphut.specs.RehearsalBlocks.{same_after, block_line};
 
 use decline::Decline;
 use journal::{BLOCK_BYTES, Entry, Event, Heading, PLACES, read, write};
 use std::fmt;
 use std::io::{self, Write};
 
-// Writes entries as a block, reads it back, and compares; the two calls of the journal refuse what they may.
+// Writes entries as a block, reads it back, and compares; a block that was written is not refused.
 fn reads_back(number: u32, entries: &[Entry]) -> Result<bool, Decline>
-    ensures { by_numbers result ≡ same_after (write_answer entries.now (replicate 512 0)) }
+    ensures { by_numbers result ≡ same_after (block_write_answer entries.now (replicate BLOCK_BYTES 0)) }
 {
     let mut block = [0; BLOCK_BYTES];
     write(number, entries, &mut block)?;
@@ -23,7 +23,7 @@ fn reads_back(number: u32, entries: &[Entry]) -> Result<bool, Decline>
     let Heading {
         number: number_read,
         count,
-    } = read(&block, &mut places)?;
+    } = read(&block, &mut places).unwrap();
     Ok(number_read == number && &places[..count] == entries)
 }
 
@@ -42,7 +42,7 @@ impl BlockLine {
         ensures number { result.number ≡ number }
         ensures count { result.count ≡ length entries.now }
         ensures first_slot { result.first_slot ≡ first_slot entries.now }
-        ensures same { by_numbers result.same ≡ same_after (write_answer entries.now (replicate 512 0)) }
+        ensures same { by_numbers result.same ≡ same_after (block_write_answer entries.now (replicate BLOCK_BYTES 0)) }
     {
         BlockLine {
             number,

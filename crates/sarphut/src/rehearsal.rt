@@ -3,15 +3,15 @@ ghost use Rattle.std.specs.Prelude.{◌≡◌, map, IfOk};
 ghost use Rattle.std.specs.List.{filter_map};
 ghost use Rattle.rig.specs.Calls.{plan_call};
 ghost use Rattle.rig.specs.Replies.{answer_numbers};
-ghost use Rattle.sarphut.specs.Answers.{AreAnswered};
-ghost use Rattle.sarphut.specs.Blocks.{passed_entry};
+ghost use Rattle.sarphut.specs.Answers.{IsPanelTrace};
+ghost use Rattle.sarphut.specs.RehearsalBlocks.{passed_entry};
 
 use crate::blocks::print_blocks;
 use crate::requests::calls;
 use decline::Decline;
 use device::LampPanel;
 use journal::Entry;
-use rig::{Answer, AnswerLine, Call, Reply, Rig};
+use rig::{Answer, AnswerLine, Call, Rig};
 use runs::run;
 use std::alloc::{AllocError, Global};
 use std::io::{self, Write};
@@ -28,13 +28,13 @@ fn print_answers<W: Write>(calls: &[Call<'_>], answers: &[Answer], out: &mut W) 
     Ok(())
 }
 
-// The entry of a slot that passed, if that is what was answered.
+// The entry that an answer brings, if it brings one.
 fn passed_entry(answer: Answer) -> Option<Entry>
     ensures { result ≡ passed_entry answer }
 {
     match answer {
-        Ok(Reply::Passed { entry }) => Some(entry),
-        _ => None,
+        Ok(reply) => reply.entry(),
+        Err(_) => None,
     }
 }
 
@@ -51,8 +51,8 @@ const NO_ANSWER: Answer = Err(Decline::NotLoaded);
 
 // Makes the calls of a fresh rig around a lamp panel, and answers what they were answered: there is a place for each.
 #[tactic(auto, using(crate::proofs::Answered::each_answered))]
-fn answers_to(alloc: Global, calls: &[Call<'_>]) -> Result<Vec<Answer>, AllocError>
-    ensures { IfOk result (λ v. AreAnswered (map plan_call calls.now) (map answer_numbers v.items)) }
+fn rehearsal_answers(alloc: Global, calls: &[Call<'_>]) -> Result<Vec<Answer>, AllocError>
+    ensures { IfOk result (λ v. IsPanelTrace (map plan_call calls.now) (map answer_numbers v.items)) }
 {
     let mut rig = Rig::new(LampPanel::new());
     let mut answers = vec![in alloc; NO_ANSWER; calls.len()]?;
@@ -64,7 +64,7 @@ fn answers_to(alloc: Global, calls: &[Call<'_>]) -> Result<Vec<Answer>, AllocErr
 /// block read back.
 pub(crate) fn rehearse<W: Write>(alloc: Global, out: &mut W) -> io::Result<bool> {
     let calls = calls(alloc)?;
-    let answers = answers_to(alloc, &calls)?;
+    let answers = rehearsal_answers(alloc, &calls)?;
     print_answers(&calls, &answers, out)?;
     let entries = passed(alloc, &answers)?;
     let all = print_blocks(&entries, out)?;

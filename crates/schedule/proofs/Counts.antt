@@ -12,15 +12,15 @@ use Rattle.admission.specs.Verdict.{Accepted}
 use Rattle.deadlines.specs.Sums.{sum_below}
 use Rattle.deadlines.specs.Course.{StreamState}
 use Rattle.deadlines.proofs.Sums.{sum_below_next, sum_below_same}
-use Rattle.deadlines.proofs.Servers.{ServeGuests, granted, whole_periods, supplied}
+use Rattle.deadlines.proofs.Servers.{ServeGuests, granted_in, whole_periods, supplied}
 use Rattle.schedule.specs.declared.turn.Turn.{Turn}
 use Rattle.schedule.specs.declared.turn.Turn.TheVariants.{Unassigned}
 use Rattle.schedule.specs.Session.{Session, turn_at}
 use Rattle.schedule.specs.Turns.{is_granted}
 use Rattle.schedule.specs.Timetable.{places_with, grants_in, GrantsBudgets, GrantsSupply}
 use Rattle.schedule.proofs.Grants.{grant_count}
-use Rattle.schedule.proofs.Places.{HasFilled}
-use Rattle.schedule.proofs.Slots.{server_before, server_ready, serve_guests, granted_turn}
+use Rattle.schedule.proofs.TimetablePlaces.{HasFilled}
+use Rattle.schedule.proofs.ServerSlots.{server_before, server_ready, serve_guests, granted_turn}
 
 -- one more element counts if it passes the test
 count_by_more : {X : Type 0} (p : X → Bool) (xs : List X) (i : ℕ) (d : X) → i < length xs
@@ -37,12 +37,12 @@ module _ (f : ℕ → Turn) (n g : ℕ) (rest : List Turn) where
   turns = map f (range_with_len 0 n) ++ rest
 
   -- 1 if a slot is granted to guest g, else 0
-  abbrev one_if : ℕ → ℕ
-  one_if k = grant_count g (f k)
+  abbrev granted_at : ℕ → ℕ
+  granted_at k = grant_count g (f k)
 
   -- the grants of t slots from s on are the difference of those before slot s + t and those before s
-  pub grants_sum : (s t : ℕ) → s + t ≤ n → grants_in g s t turns + sum_below one_if s ≡ sum_below one_if (s + t)
-  grants_sum s zero h = let none : s ≡ s + 0 = omega arith in omega (arith, ap (sum_below one_if) none)
+  pub grants_sum : (s t : ℕ) → s + t ≤ n → grants_in g s t turns + sum_below granted_at s ≡ sum_below granted_at (s + t)
+  grants_sum s zero h = let none : s ≡ s + 0 = omega arith in omega (arith, ap (sum_below granted_at) none)
   grants_sum s (suc t) h =
       let long : n ≤ length turns =
       omega (arith, length-append (map f (range_with_len 0 n)) rest, length-map-range_with_len f 0 n) in
@@ -61,8 +61,8 @@ module _ (f : ℕ → Turn) (n g : ℕ) (rest : List Turn) where
         ap (λ k. count_by (is_granted g) (take k (drop s turns))) count,
         ap (grant_count g) is,
         grants_sum s t (omega (arith, h)),
-        ap (sum_below one_if) slots,
-        sum_below_next one_if (s + t),
+        ap (sum_below granted_at) slots,
+        sum_below_next granted_at (s + t),
       )
 
 module _ (p : Plan) (registers : ℕ) (ok : Accepted p registers) where
@@ -88,7 +88,7 @@ module _ (p : Plan) (registers : ℕ) (ok : Accepted p registers) where
 
   -- the slots before slot s grant guest i what they take from its budgets
   grants_before : (i s : ℕ)
-      → sum_below (grant_at i) s ≡ sum_below (granted before ready i) s
+      → sum_below (grant_at i) s ≡ sum_below (granted_in before ready i) s
   grants_before i s = sum_below_same _ _ s (λ k l. granted_turn p.table p.guests i k)
 
   -- the slots of the first q periods of guest i grant it q budgets

@@ -4,11 +4,11 @@ use Rattle.std.proofs.Common.{List, length, Option, Some, None}
 use Rattle.std.proofs.lemmas.Grind.{common_steps}
 use Rattle.deadlines.specs.Course.{StreamState, with_unit, Serves}
 use Rattle.deadlines.proofs.OneAtATime.{Servable, names_place, ServedBy, EarlierFirst, WaitForWork}
-use Rattle.deadlines.proofs.OneAtATime.{length_served, work_served, serves_earliest}
+use Rattle.deadlines.proofs.OneAtATime.{work_served, serves_earliest}
 use Rattle.schedule.specs.declared.server.Server.{Server}
 use Rattle.schedule.specs.declared.turn.Turn.{Turn}
-use Rattle.schedule.specs.Slot.{has_budget, server_rank, server_at, no_server}
-use Rattle.schedule.specs.Slot.{first_server, with_less, with_grant, free_turn}
+use Rattle.schedule.specs.ServerSlot.{has_budget, server_rank, server_at, no_server}
+use Rattle.schedule.specs.ServerSlot.{first_server, with_less, with_grant, free_turn}
 use Rattle.schedule.specs.Turns.{is_granted}
 use Rattle.schedule.proofs.Waiting.{by_rank, served_by_earliest}
 
@@ -59,11 +59,7 @@ module _ (vs : List Server) where
   wait_for_budget : WaitForWork servers (length vs) vs
   wait_for_budget k l waits = (l, grind (arith, common_steps))
 
-  -- after a grant there are as many servers
-  pub length_granted : length (with_grant vs) ≡ length vs
-  length_granted = length_served servers vs (first_server vs) (with_grant vs) (granted_by_first vs)
-
-  -- and as many slots less as the grant says: one, if the turn is its guest's
+  -- after a grant a server has as many slots less as the grant says: one, if the turn is its guest's
   pub left_granted : (k : ℕ)
       → (server_at (with_grant vs) k).left + grant_count (k + 1) (free_turn (first_server vs)) ≡ (server_at vs k).left
   left_granted k =

@@ -1,7 +1,7 @@
 mod Refills
 pub mod Waiting
 pub mod Grants
-pub mod Slots
+pub mod ServerSlots
 pub mod Sessions
 pub mod Counts
-mod Places
+mod TimetablePlaces

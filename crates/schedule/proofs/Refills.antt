@@ -7,7 +7,7 @@ use Rattle.std.proofs.lemmas.List.FromFn.{map-range_with_len_more}
 use Rattle.setups.specs.declared.setup.Guest.{Guest}
 use Rattle.setups.specs.Plan.{guest_at}
 use Rattle.schedule.specs.declared.server.Server.{Server}
-use Rattle.schedule.specs.Slot.{with_refill, server_at}
+use Rattle.schedule.specs.ServerSlot.{with_refill, server_at}
 
 -- the servers before place i have their refills, and the others are as they were
 pub record SoFar (slot : ℕ) (gs : List Guest) (old now : List Server) (i : ℕ) : Type 0 where

@@ -13,12 +13,12 @@ use Rattle.schedule.specs.declared.server.Server.{Server}
 use Rattle.schedule.specs.declared.turn.Turn.{Turn}
 use Rattle.setups.specs.Supply.{free?}
 use Rattle.schedule.specs.declared.turn.Turn.TheVariants.{Fixed}
-use Rattle.schedule.specs.Slot.{after_slot, server_at, byte_at, free_turn}
-use Rattle.schedule.specs.Slot.{first_server, with_grant, with_refills}
+use Rattle.schedule.specs.ServerSlot.{after_slot, server_at, byte_at, free_turn}
+use Rattle.schedule.specs.ServerSlot.{first_server, with_grant, with_refills}
 use Rattle.schedule.specs.Session.{server_at_start, servers_at_start, servers_after, turn_at}
 use Rattle.schedule.specs.Session.{LimitsInvariant, ServersInvariant, IsNamedByByte, IsTurnOf}
 use Rattle.schedule.proofs.Grants.{servers, granted_by_first}
-use Rattle.schedule.proofs.Slots.{within_after_slot, at_start, servers_next, length_refills}
+use Rattle.schedule.proofs.ServerSlots.{within_after_slot, at_start, servers_next, length_refills}
 
 -- where the first i of some servers are those at the start, with server i set so are the first i + 1
 pub start_more : (vs : List Server) (i : ℕ) → i < length vs → take i vs ≡ servers_at_start i

@@ -1,4 +1,4 @@
 pub mod Session
-pub mod Slot
+pub mod ServerSlot
 pub mod Timetable
 pub mod Turns

@@ -13,7 +13,7 @@ use Rattle.setups.specs.declared.limits.TheConstants.{MOST_GUESTS, MOST_SLOTS}
 use Rattle.schedule.specs.declared.server.Server.{Server}
 use Rattle.schedule.specs.declared.turn.Turn.{Turn}
 use Rattle.schedule.specs.declared.turn.Turn.TheVariants.{Unassigned, Fixed, Granted}
-use Rattle.schedule.specs.Slot.{turn_of, after_slot, server_at}
+use Rattle.schedule.specs.ServerSlot.{turn_of, after_slot, server_at}
 
 -- the server at place i at the start of a session: guest i + 1, with nothing left and the boundary 0
 abbrev pub server_at_start : ℕ → Server

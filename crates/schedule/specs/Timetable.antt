@@ -26,7 +26,7 @@ places_with p turns n = first_turns p n ++ drop n turns
 
 -- the two numbers of the turn of each of the slots 0 to n - 1
 abbrev pub first_numbers : Plan → ℕ → List TurnNumbers
-first_numbers p n = map (λ s. turn_numbers (turn_at p.table p.guests s)) (range_with_len 0 n)
+first_numbers p n = map turn_numbers (first_turns p n)
 
 -- the first n places of a list are filled in: by their two numbers they are the turns of the slots 0 to n - 1, and the
 -- places past them are as they were

@@ -2,8 +2,8 @@
 ghost use Rattle.std.specs.Prelude.{◌≡◌, ◌<◌, ◌≤◌, length};
 ghost use Rattle.std.specs.List.{All};
 ghost use Rattle.setups.specs.Limits.{ServerOk};
-ghost use Rattle.schedule.specs.Slot.{has_budget, server_rank, with_refill, with_refills};
-ghost use Rattle.schedule.specs.Slot.{first_server, with_grant, free_turn, turn_of, after_slot};
+ghost use Rattle.schedule.specs.ServerSlot.{has_budget, server_rank, with_refill, with_refills};
+ghost use Rattle.schedule.specs.ServerSlot.{first_server, with_grant, free_turn, turn_of, after_slot};
 
 use crate::turn::Turn;
 use admission::Guest;

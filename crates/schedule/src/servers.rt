@@ -126,7 +126,7 @@ impl Servers {
         self.session
     }
 
-    /// How many of them have passed.
+    /// How many slots of the session have passed.
     pub fn passed(&self) -> u32
         ensures { result ≡ self.now.passed }
     {

@@ -1,4 +1,4 @@
-//! Whose turn a slot is.
+//! Turns, with their numbers.
 ghost use Rattle.std.specs.Prelude.{◌≡◌};
 ghost use Rattle.schedule.specs.Turns.{turn_numbers, SaysWhoseTurn};
 

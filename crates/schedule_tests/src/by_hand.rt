@@ -2,7 +2,7 @@
 //! digits are guests, and a dot is a slot that is nobody's.
 use crate::timetables::*;
 use admission::{Guest, Setup, judge};
-use samples::{REGISTERS, SETUP_A, TABLE_A};
+use samples::{PANEL_REGISTERS, SETUP_A, TABLE_A};
 use schedule::{Turn, TurnNumbers};
 use std::process::Abort;
 
@@ -19,7 +19,7 @@ fn turn(letter: u8) -> Turn {
 
 // The setup is accepted, its first turns are those of the row, and each budget is granted.
 fn begins(rt: &impl Abort, setup: &Setup<'_>, row: &str) {
-    assert_eq!(rt; judge(setup, REGISTERS), Ok(()), "{row}");
+    assert_eq!(rt; judge(setup, PANEL_REGISTERS), Ok(()), "{row}");
     let (answer, turns) = filled::<40>(setup);
     assert_eq!(rt; answer, Ok(40), "{row}");
     for (slot, letter) in row.bytes().enumerate() {

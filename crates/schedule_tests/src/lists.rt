@@ -2,7 +2,7 @@
 use crate::timetables::*;
 use admission::{Setup, judge};
 use decline::{Decline, DeclineNumbers, Part};
-use samples::{REGISTERS, SETUP_A};
+use samples::{PANEL_REGISTERS, SETUP_A};
 use schedule::{Servers, timetable};
 use std::process::Abort;
 use std::test::Fail;
@@ -15,7 +15,7 @@ fn a_list_is_filled_to_its_end_or_that_of_the_session(rt: HostRuntime) {
         let mut list = [HELD; 64];
         let count = places.min(40);
         assert_eq!(rt;
-            timetable(&SETUP_A, REGISTERS, &mut list[..places]),
+            timetable(&SETUP_A, PANEL_REGISTERS, &mut list[..places]),
             Ok(count)
         );
         assert!(rt; list[..count] == turns[..count]);
@@ -25,11 +25,11 @@ fn a_list_is_filled_to_its_end_or_that_of_the_session(rt: HostRuntime) {
 
 // The setup is refused by this refusal everywhere, and the list keeps what it held.
 fn refuses(rt: &impl Abort, setup: &Setup<'_>, refusal: Decline) {
-    assert_eq!(rt; judge(setup, REGISTERS), Err(refusal));
+    assert_eq!(rt; judge(setup, PANEL_REGISTERS), Err(refusal));
     let (answer, turns) = filled::<40>(setup);
     assert_eq!(rt; answer, Err(refusal));
     assert_eq!(rt; turns, [HELD; 40]);
-    assert_eq!(rt; Servers::new(setup, REGISTERS).err(), Some(refusal));
+    assert_eq!(rt; Servers::new(setup, PANEL_REGISTERS).err(), Some(refusal));
 }
 
 #[test]
@@ -88,7 +88,7 @@ fn a_refusal_is_the_judges(rt: HostRuntime) {
 fn servers_pass_the_slots_of_the_timetable_and_no_more(rt: HostRuntime) -> Result<(), Fail> {
     let (answer, turns) = filled::<40>(&SETUP_A);
     assert_eq!(rt; answer, Ok(40));
-    let mut servers = Servers::new(&SETUP_A, REGISTERS)?;
+    let mut servers = Servers::new(&SETUP_A, PANEL_REGISTERS)?;
     for (slot, turn) in turns.iter().enumerate() {
         assert_eq!(rt; servers.pass_slot(), Ok(*turn), "slot {slot}");
     }

@@ -3,7 +3,7 @@ ghost use Rattle.std.specs.Prelude.{◌≤◌};
 
 use admission::{Guest, Operation, Setup};
 use decline::Decline;
-use samples::{REGISTERS, guest};
+use samples::{PANEL_REGISTERS, guest};
 use schedule::{Turn, timetable};
 
 // What a place holds before it is filled in; no setup has such a turn.
@@ -46,7 +46,7 @@ pub(crate) const fn granted(guest: u8) -> Turn {
 // What `timetable` answers for a list of so many places, and what these hold afterwards.
 pub(crate) fn filled<const N: usize>(setup: &Setup<'_>) -> (Result<usize, Decline>, [Turn; N]) {
     let mut turns = [HELD; N];
-    let answer = timetable(setup, REGISTERS, &mut turns);
+    let answer = timetable(setup, PANEL_REGISTERS, &mut turns);
     (answer, turns)
 }
 

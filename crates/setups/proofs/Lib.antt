@@ -1,5 +1,5 @@
 pub mod Padding
 pub mod Growth
-pub mod Parts
+pub mod GuestPlaces
 pub mod ServerTasks
 pub mod SlotWindows

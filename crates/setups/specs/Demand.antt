@@ -73,7 +73,7 @@ TasksHaveSpare period budget ks = task_shares ks + SPARE ≤ share_down budget p
 abbrev pub LinkServedAt : List ℕ → List Guest → ℕ → Type 0
 LinkServedAt table gs t = servers_demand gs t ≤ supply table t
 
--- the servers need no more than that in any number of slots
+-- in any number of slots the servers need no more than the table leaves free
 unfoldable pub LinkServed : List ℕ → List Guest → Type 0
 LinkServed table gs = (t : ℕ) → LinkServedAt table gs t
 
@@ -81,7 +81,7 @@ LinkServed table gs = (t : ℕ) → LinkServedAt table gs t
 abbrev pub TasksServedAt : ℕ → ℕ → List Task → ℕ → Type 0
 TasksServedAt period budget ks t = tasks_demand ks t ≤ server_supply period budget t
 
--- tasks need no more than that in any number of slots
+-- in any number of slots tasks need no more than their server gives
 unfoldable pub TasksServed : ℕ → ℕ → List Task → Type 0
 TasksServed period budget ks = (t : ℕ) → TasksServedAt period budget ks t
 
@@ -93,6 +93,6 @@ GuestHasSpare gs ks i = TasksHaveSpare (guest_at gs i).period (guest_at gs i).bu
 abbrev pub GuestServedAt : List Guest → List Task → ℕ → ℕ → Type 0
 GuestServedAt gs ks i t = TasksServedAt (guest_at gs i).period (guest_at gs i).budget (tasks_of gs ks i) t
 
--- the tasks of guest i need no more than that in any number of slots
+-- in any number of slots the tasks of guest i need no more than its server gives
 abbrev pub GuestServed : List Guest → List Task → ℕ → Type 0
 GuestServed gs ks i = TasksServed (guest_at gs i).period (guest_at gs i).budget (tasks_of gs ks i)

@@ -96,7 +96,7 @@ pub record WindowOk (registers : ℕ) (gs : List Guest) (i : ℕ) : Type 0 where
   pub fits : WindowFits registers (guest_at gs i)
   pub apart : MeetsNone gs i
 
--- rule 4: so does the window of each guest
+-- rule 4: the window of each guest has a register, lies in the device and meets no earlier one
 abbrev pub WindowsOk : ℕ → List Guest → Type 0
 WindowsOk registers gs = (i : ℕ) → i < length gs → WindowOk registers gs i
 

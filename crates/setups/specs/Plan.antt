@@ -2,6 +2,7 @@
 -- and operations count from 1, and table bytes from 0.
 use Rattle.std.specs.Prelude.{ℕ, ◌+◌, ◌<◌, ◌≤◌, List, take, drop, sum_by, slice_index_or}
 use Rattle.std.specs.List.{All}
+use Rattle.setups.specs.declared.limits.TheConstants.{VALUES}
 use Rattle.setups.specs.declared.setup.Operation.{Operation}
 use Rattle.setups.specs.declared.setup.Operation.TheVariants.{Write, Read}
 use Rattle.setups.specs.declared.setup.Guest.{Guest}
@@ -64,7 +65,7 @@ value_of (Read r) = 0
 
 -- the value that an operation writes is a number of 16 bits
 abbrev pub ValueFits : Operation → Type 0
-ValueFits o = value_of o < 65536
+ValueFits o = value_of o < VALUES
 
 -- each value that an operation of a plan writes is a number of 16 bits
 pub record ValuesFit (p : Plan) : Type 0 where

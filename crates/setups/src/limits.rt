@@ -33,6 +33,9 @@ pub const HIGHEST_COST: u32 = 16;
 /// The most operations of a setup: those of all tasks.
 pub const MOST_OPERATIONS: usize = 2048;
 
+/// How many values an operation can write: as many as a number of 16 bits tells apart.
+pub const VALUES: u32 = 65_536;
+
 /// The whole of what is shared, in millionths.
 pub const WHOLE: u32 = 1_000_000;
 

@@ -3,7 +3,7 @@ use Rattle.std.proofs.Common.{◌≡◌, [], ◌∷◌, map, refl}
 use Rattle.std.specs.List.{range_with_len}
 use Rattle.setups.specs.Supply.{supply, least_to, window_free}
 use Rattle.schedule.specs.declared.turn.Turn.TheVariants.{Unassigned, Fixed, Granted}
-use Rattle.schedule.specs.Slot.{with_refills}
+use Rattle.schedule.specs.ServerSlot.{with_refills}
 use Rattle.schedule.specs.Session.{servers_after}
 use Rattle.schedule.specs.Timetable.{first_turns}
 use Rattle.samples.specs.Setups.{table_a, setup_a}

@@ -3,7 +3,7 @@ use Rattle.std.specs.Prelude.{◌≡◌, ℕ, ◌==◌, List, [], ◌∷◌, map
 use Rattle.std.specs.List.{range_with_len}
 use Rattle.decline.specs.declared.DeclineNumbers.{DeclineNumbers}
 use Rattle.journal.specs.declared.fields.Fields.{Fields}
-use Rattle.journal.specs.Sums.{sum_a, sum_b}
+use Rattle.journal.specs.BlockSums.{sum_a, sum_b}
 use Rattle.device.specs.Panel.{panel_at_start}
 use Rattle.setups.specs.Plan.{Plan}
 use Rattle.setups.specs.Supply.{supply}
@@ -14,11 +14,11 @@ use Rattle.schedule.specs.Timetable.{first_turns}
 use Rattle.rig.specs.Calls.{PlanCall, load}
 use Rattle.rig.specs.Replies.{NumberedAnswer}
 use Rattle.rig.specs.Step.{RigState, fresh_rig}
-use Rattle.runs.specs.Traces.{Exchange, exchanges, AreMade}
-use Rattle.runs.specs.Entries.{entries}
-use Rattle.runs.specs.Laws.{released, answers_to}
-use Rattle.samples.specs.Setups.{table_a, two_fixed, setup_a, setup_a_with, one_guest}
-use Rattle.values.specs.Calls.{slots, three_releases}
+use Rattle.runs.specs.Traces.{Exchange, exchanges, IsAnsweredTrace}
+use Rattle.runs.specs.TraceEntries.{entries}
+use Rattle.runs.specs.Laws.{release_answer, answers_to}
+use Rattle.samples.specs.Setups.{table_a, table_two_fixed, setup_a, setup_a_with, one_guest}
+use Rattle.values.specs.RunCalls.{slots, three_releases}
 
 -- the kinds of worked values
 pub data Row : Type 0 where
@@ -56,7 +56,8 @@ pub record AnswersAre (g : ℕ) (as′ : List NumberedAnswer) (used : List ℕ) 
 -- plan and then called so
 abbrev pub InEachRun : Plan → List PlanCall → (List Exchange → Type 0) → Type 0
 InEachRun p calls so = (answers : List NumberedAnswer) (after : RigState)
-    → AreMade (fresh_rig panel_at_start) (load p ∷ calls) answers after → so (exchanges (load p ∷ calls) answers)
+    → IsAnsweredTrace (fresh_rig panel_at_start) (load p ∷ calls) answers after
+    → so (exchanges (load p ∷ calls) answers)
 
 -- what a row says
 abbrev pub Holds : Row → Type 0
@@ -74,27 +75,27 @@ AllHold [] = Unit {0}
 AllHold (row ∷ rows) = Holds row × AllHold rows
 
 -- a refusal by its three numbers
-abbrev pub refused : {X : Type 0} → ℕ → ℕ → ℕ → Result X DeclineNumbers
-refused number guest place = Err (record { number = number; guest = guest; place = place })
+abbrev pub refusal : {X : Type 0} → ℕ → ℕ → ℕ → Result X DeclineNumbers
+refusal number guest place = Err (record { number = number; guest = guest; place = place })
 
--- the table
-abbrev pub table : List Row
-table =
+-- the table of worked values
+abbrev pub worked_rows : List Row
+worked_rows =
     block_sums (1 ∷ 2 ∷ []) 3 5
     ∷ supplies table_a (0 ∷ 0 ∷ 1 ∷ 2 ∷ 3 ∷ 4 ∷ 4 ∷ 5 ∷ 6 ∷ 7 ∷ [])
     ∷ supply_is table_a 26 20
     ∷ verdict setup_a 64 (Ok tt)
     ∷ verdict (setup_a_with 8 3) 64 (Ok tt)
-    ∷ verdict (setup_a_with 7 3) 64 (refused 10 1 7)
-    ∷ verdict (setup_a_with 10 4) 64 (refused 7 0 0)
-    ∷ verdict (one_guest two_fixed 2 1) 64 (refused 8 0 2)
+    ∷ verdict (setup_a_with 7 3) 64 (refusal 10 1 7)
+    ∷ verdict (setup_a_with 10 4) 64 (refusal 7 0 0)
+    ∷ verdict (one_guest table_two_fixed 2 1) 64 (refusal 8 0 2)
     ∷ verdict (one_guest (0 ∷ []) 100 1) 64 (Ok tt)
-    ∷ verdict (one_guest (0 ∷ []) 101 1) 64 (refused 9 1 0)
+    ∷ verdict (one_guest (0 ∷ []) 101 1) 64 (refusal 9 1 0)
     ∷ turns setup_a
     (Fixed 1 ∷ Granted 1 ∷ Granted 1 ∷ Granted 2 ∷ Granted 2
     ∷ Fixed 1 ∷ Granted 1 ∷ Granted 1 ∷ Granted 2 ∷ Unassigned ∷ [])
     ∷ run_entries setup_a (slots 10) (1 ∷ 3 ∷ 3 ∷ 3 ∷ 3 ∷ 1 ∷ 3 ∷ 3 ∷ 3 ∷ 0 ∷ [])
     (0 ∷ 1 ∷ 1 ∷ 2 ∷ 2 ∷ 0 ∷ 1 ∷ 1 ∷ 2 ∷ 0 ∷ [])
     ∷ run_answers setup_a three_releases 1
-    (released 10 ∷ refused 15 1 20 ∷ released 30 ∷ []) (1 ∷ 2 ∷ [])
+    (release_answer 10 ∷ refusal 15 1 20 ∷ release_answer 30 ∷ []) (1 ∷ 2 ∷ [])
     ∷ []

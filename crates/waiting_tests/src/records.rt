@@ -1,24 +1,27 @@
 //! Two kinds of records that wait.
-ghost use Rattle.waiting_tests.specs.Kinds.{server_waits, server_rank, job_waits, job_rank};
+ghost use Rattle.waiting_tests.specs.Kinds.{sample_server_waits, sample_server_rank, sample_job_waits, sample_job_rank};
 
 use waiting::{Rank, Waits};
 
 /// A guest's server: it waits while it has budget left, and the nearest boundary goes first,
 /// then the least guest number.
 #[derive(Clone, Copy, PartialEq, Eq, Debug)]
-pub struct Server {
-    pub budget: u32,
+pub struct SampleServer {
+    /// What is left of the budget.
+    pub left: u32,
+    /// The next boundary.
     pub boundary: u32,
+    /// The guest.
     pub guest: u32,
 }
 
-impl Waits for Server {
-    ghost waits = { server_waits };
+impl Waits for SampleServer {
+    ghost waits = { sample_server_waits };
 
-    ghost rank = { server_rank };
+    ghost rank = { sample_server_rank };
 
     fn waits(&self) -> bool {
-        self.budget > 0
+        self.left > 0
     }
 
     fn rank(&self) -> Rank {
@@ -31,16 +34,19 @@ impl Waits for Server {
 
 /// A task's job: it waits while it is pending, and the nearest deadline goes first, then the least task number.
 #[derive(Clone, Copy, PartialEq, Eq, Debug)]
-pub struct Job {
+pub struct SampleJob {
+    /// Whether it is pending.
     pub pending: bool,
+    /// Its deadline.
     pub deadline: u32,
+    /// Its task.
     pub task: u32,
 }
 
-impl Waits for Job {
-    ghost waits = { job_waits };
+impl Waits for SampleJob {
+    ghost waits = { sample_job_waits };
 
-    ghost rank = { job_rank };
+    ghost rank = { sample_job_rank };
 
     fn waits(&self) -> bool {
         self.pending

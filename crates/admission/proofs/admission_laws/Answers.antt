@@ -1,5 +1,5 @@
 use Rattle.setups.proofs.SlotWindows.{supply_least, supply_law}
-use Rattle.admission.specs.Laws.{SupplyIsLeast, SupplyRepeats}
+use Rattle.admission.specs.AdmissionLaws.{SupplyIsLeast, SupplyRepeats}
 use Rattle.admission.proofs.SearchBounds.{link_search_bound, tasks_search_bound, tasks_search_bound_by_pauses}
 use Rattle.admission.proofs.UniqueVerdict.{one_verdict}
 use Rattle.admission.proofs.admission_laws.Goals as goal

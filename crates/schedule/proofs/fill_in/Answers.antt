@@ -1,7 +1,7 @@
 use Rattle.std.proofs.Common.{sym, ap, ◌∙◌, arith}
 use Rattle.decline.specs.Refusals.{by_numbers}
 use Rattle.setups.specs.Plan.{plan_of}
-use Rattle.schedule.proofs.Places.{answered, next_turn, filled_more, filled_by_numbers}
+use Rattle.schedule.proofs.TimetablePlaces.{answered, next_turn, filled_more, filled_by_numbers}
 use Rattle.schedule.proofs.Counts.{budgets_of, supply_of}
 use Rattle.schedule.proofs.fill_in.Goals as goal
 

@@ -1,5 +1,5 @@
 use Rattle.setups.specs.Plan.{plan_of}
-use Rattle.schedule.proofs.Places.{HasFilled}
+use Rattle.schedule.proofs.TimetablePlaces.{HasFilled}
 use Rattle.schedule.proofs.fill_in.Given as goal
 
 abbrev pub invariant-loop-i : goal.invariant-loop-i

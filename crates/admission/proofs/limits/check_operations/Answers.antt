@@ -7,7 +7,7 @@ use Rattle.std.proofs.lemmas.List.Elements.{All-from_get_or}
 use Rattle.setups.specs.Plan.{no_operation, guest_at, operation_at, task_start, operation_start, ValueFits}
 use Rattle.setups.specs.Limits.{Inside, InsideAtPlace, InsideAt}
 use Rattle.admission.specs.Verdict.{FirstFailing}
-use Rattle.setups.proofs.Parts.{part-at, operation_start_grows, operation_start-all}
+use Rattle.setups.proofs.GuestPlaces.{part-at, operation_start_grows, operation_start-all}
 use Rattle.admission.proofs.Owners.{owner, owned-more, owned-first}
 use Rattle.admission.proofs.limits.check_operations.Invariants.{KeepsRule}
 use Rattle.admission.proofs.limits.check_operations.Goals as goal

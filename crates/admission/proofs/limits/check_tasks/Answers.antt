@@ -6,7 +6,7 @@ use Rattle.decline.specs.Refusals.{numbers_of}
 use Rattle.setups.specs.Plan.{no_task, guest_at, task_count_of, task_start, tasks_of}
 use Rattle.setups.specs.Limits.{TaskOk, TaskOkAtPlace, TaskOkAt}
 use Rattle.admission.specs.Verdict.{FirstFailing}
-use Rattle.setups.proofs.Parts.{part, tasks_of-at, tasks_of-length, task_start_grows, task_start-all}
+use Rattle.setups.proofs.GuestPlaces.{task_places, tasks_of-at, tasks_of-length, task_start_grows, task_start-all}
 use Rattle.admission.proofs.Owners.{owner, owned-more, owned-first}
 use Rattle.admission.proofs.limits.check_tasks.Goals as goal
 
@@ -17,7 +17,7 @@ returns-in-Some c =
     let start = task_start gs in
     let i = c.loop-i.i in
     let j = c.in-Some.j in
-    let p = part gs ks i c.args.guest_tasks.now.agreeing c.loop-i-test.true in
+    let p = task_places gs ks i c.args.guest_tasks.now.agreeing c.loop-i-test.true in
     let found : FirstFailing (TaskOkAtPlace c.tasks_of.result.now) j × (j < length c.tasks_of.result.now) =
     search rules in
     let own : FirstFailing (TaskOkAtPlace (tasks_of gs ks i)) j × (j < length (tasks_of gs ks i)) =
@@ -38,7 +38,7 @@ loop-i-preserved c =
     let gs = c.args.guest_tasks.now.guests.now in
     let ks = c.args.guest_tasks.now.tasks.now in
     let i = c.loop-i.i in
-    let p = part gs ks i c.args.guest_tasks.now.agreeing c.loop-i-test.true in
+    let p = task_places gs ks i c.args.guest_tasks.now.agreeing c.loop-i-test.true in
     let found : All TaskOk c.tasks_of.result.now = search rules in
     let own : All TaskOk (tasks_of gs ks i) = rw c.tasks_of.ensures at found in
     owned-more (length gs) (task_start gs) (task_start_grows gs) (TaskOkAt ks) i c.loop-i.invariant

@@ -1,4 +1,4 @@
-use Rattle.journal.proofs.Growth.{decoded_more}
+use Rattle.journal.proofs.PartByPart.{decoded_more}
 use Rattle.journal.proofs.blocks.decode.Goals as goal
 
 pub loop-e-preserved : goal.loop-e-preserved

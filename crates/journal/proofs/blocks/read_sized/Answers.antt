@@ -1,7 +1,7 @@
 use Rattle.std.proofs.Common.{sym, rules}
 use Rattle.std.proofs.lemmas.Result.{err_from_is_err_and}
 use Rattle.decline.specs.Refusals.{numbers_of}
-use Rattle.journal.proofs.Checks.{answer_good}
+use Rattle.journal.proofs.BlockChecks.{answer_good}
 use Rattle.journal.proofs.ReadsBack.{never_written}
 use Rattle.journal.proofs.WritesBack.{read_writes_back}
 use Rattle.journal.proofs.blocks.read_sized.Goals as goal

@@ -1,8 +1,8 @@
 use Rattle.std.proofs.Common.{◌+◌, ◌*◌, length, take, sym, subst, arith}
-use Rattle.journal.specs.Calls.{ReadsBack}
+use Rattle.journal.specs.WriteRead.{ReadsBack}
 use Rattle.journal.specs.Blocks.{entry_fits}
 use Rattle.journal.proofs.Failing.{passing}
-use Rattle.journal.proofs.Growth.{block_made}
+use Rattle.journal.proofs.PartByPart.{block_made}
 use Rattle.journal.proofs.ReadsBack.{reads_back}
 use Rattle.journal.proofs.blocks.write_sized.Goals as goal
 

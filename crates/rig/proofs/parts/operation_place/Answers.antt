@@ -1,6 +1,6 @@
 use Rattle.std.proofs.Common.{ap, sum_by, take, arith}
 use Rattle.setups.specs.Plan.{plan_of, cost_of}
-use Rattle.rig.proofs.Places.{few_operations, operations_within}
+use Rattle.rig.proofs.PlanPlaces.{few_operations, operations_within}
 use Rattle.rig.proofs.parts.operation_place.Goals as goal
 
 pub overflow_cast-result : goal.overflow_cast-result

@@ -1,6 +1,6 @@
 use Rattle.std.proofs.Common.{sym, ap, ◌∙◌}
 use Rattle.setups.specs.Plan.{plan_of, task_at}
-use Rattle.rig.proofs.Places.{task_is, task_ok}
+use Rattle.rig.proofs.PlanPlaces.{task_is, task_ok}
 use Rattle.rig.proofs.parts.task_of.Goals as goal
 
 pub returns : goal.returns

@@ -2,7 +2,7 @@ use Rattle.std.proofs.Common.{◌≡◌, sym, ap, ◌∙◌, length, map, arith}
 use Rattle.std.specs.List.{range_with_len}
 use Rattle.std.proofs.lemmas.List.{take_all}
 use Rattle.setups.specs.Plan.{guest_at}
-use Rattle.schedule.specs.Slot.{with_refill, with_refills, server_at}
+use Rattle.schedule.specs.ServerSlot.{with_refill, with_refills, server_at}
 use Rattle.schedule.proofs.Refills.{one_more}
 use Rattle.schedule.proofs.server.refill.Goals as goal
 

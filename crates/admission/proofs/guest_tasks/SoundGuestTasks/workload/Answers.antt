@@ -1,4 +1,4 @@
-use Rattle.setups.proofs.Parts.{part, tasks_of-few, tasks_of-ok}
+use Rattle.setups.proofs.GuestPlaces.{task_places, tasks_of-few, tasks_of-ok}
 use Rattle.admission.proofs.guest_tasks.SoundGuestTasks.workload.Goals as goal
 
 pub invariant_of-result : goal.invariant_of-result
@@ -9,5 +9,5 @@ invariant_of-result c =
     rw c.tasks_of.ensures
     (record {
       ok = tasks_of-ok gs ks i c.args.self.now.tasks;
-      few = tasks_of-few gs ks i (part gs ks i c.args.self.now.guest_tasks.agreeing c.requires).few;
+      few = tasks_of-few gs ks i (task_places gs ks i c.args.self.now.guest_tasks.agreeing c.requires).few;
     })

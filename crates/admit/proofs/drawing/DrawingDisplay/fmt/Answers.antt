@@ -1,7 +1,7 @@
 use Rattle.std.proofs.Common.{rules, arith, refl}
 use Rattle.std.proofs.Output.{has_written_append, has_written_of_eq}
 use Rattle.admit.specs.Drawing.{block_at}
-use Rattle.admit.proofs.Rows.{texts_more}
+use Rattle.admit.proofs.DrawingRows.{texts_more}
 use Rattle.admit.proofs.drawing.DrawingDisplay.fmt.Goals as goal
 
 -- one block more is written

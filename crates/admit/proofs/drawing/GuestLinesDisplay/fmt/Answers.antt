@@ -2,7 +2,7 @@ use Rattle.std.proofs.Common.{◌≡◌, ◌+◌, ◌-◌, ◌∙◌, ap, arith,
 use Rattle.std.specs.Fmt.{styled_decimal}
 use Rattle.std.proofs.Output.{has_written_append, has_written_of_eq}
 use Rattle.admit.specs.Drawing.{wide_decimal, guest_line}
-use Rattle.admit.proofs.Rows.{texts_more, left_aligned}
+use Rattle.admit.proofs.DrawingRows.{texts_more, left_aligned}
 use Rattle.admit.proofs.drawing.GuestLinesDisplay.fmt.Goals as goal
 
 -- one line more is written

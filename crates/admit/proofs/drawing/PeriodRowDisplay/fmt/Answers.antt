@@ -1,7 +1,7 @@
 use Rattle.std.proofs.Common.{rules, arith, encode_utf8}
 use Rattle.std.proofs.Output.{has_written_append, has_written_of_eq}
 use Rattle.admit.specs.Drawing.{period_mark}
-use Rattle.admit.proofs.Rows.{texts_more}
+use Rattle.admit.proofs.DrawingRows.{texts_more}
 use Rattle.admit.proofs.drawing.PeriodRowDisplay.fmt.Goals as goal
 
 -- one mark more is written

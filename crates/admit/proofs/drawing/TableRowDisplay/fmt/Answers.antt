@@ -1,8 +1,8 @@
 use Rattle.std.proofs.Common.{rules, arith, encode_utf8}
 use Rattle.std.proofs.Output.{has_written_append, has_written_of_eq}
-use Rattle.schedule.specs.Slot.{byte_at}
+use Rattle.schedule.specs.ServerSlot.{byte_at}
 use Rattle.admit.specs.Drawing.{byte_mark}
-use Rattle.admit.proofs.Rows.{texts_more}
+use Rattle.admit.proofs.DrawingRows.{texts_more}
 use Rattle.admit.proofs.drawing.TableRowDisplay.fmt.Goals as goal
 
 -- one mark more is written

@@ -1,7 +1,7 @@
 use Rattle.std.proofs.Common.{rules, arith}
 use Rattle.setups.specs.Plan.{plan_of}
 use Rattle.rig.proofs.RigInvariant.{invariant_at_load}
-use Rattle.rig.proofs.Places.{few_tasks, few_operations}
+use Rattle.rig.proofs.PlanPlaces.{few_tasks, few_operations}
 use Rattle.rig.proofs.tables.Tables.new.Goals as goal
 
 pub invariant_of-result : goal.invariant_of-result
