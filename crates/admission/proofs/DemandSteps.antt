@@ -1,13 +1,14 @@
--- Where demand rises, and how large it is.
-use Rattle.std.proofs.Common.{◌≡◌, ℕ, ◌+◌, ◌-◌, ◌*◌, ◌/◌, ◌<◌, ◌≤◌, List, [], ◌∷◌, length, get_or, le_trans, refl}
+-- Where demand rises, how large it is, and how large what a server gives.
+use Rattle.std.proofs.Common.{◌≡◌, ℕ, ◌+◌, ◌-◌, ◌*◌, ◌/◌, ◌%◌, ◌<◌, ◌≤◌, List, [], ◌∷◌, length, get_or, le_trans, refl}
 use Rattle.std.proofs.Common.{mul-le-mul_right, mul-le-mul_left, div-mul-le_self, arith, le-ltb, lt-ltb}
 use native.Mathlib.Decide.{dec_lt}
+use native.Mathlib.Nat.{mod-add-div'}
 use Rattle.std.specs.List.{All}
 use Rattle.std.proofs.lemmas.List.Sums.{sum_by-cons, sum_by-le}
 use Rattle.std.proofs.lemmas.List.Elements.{All-head, All-tail, All-weaker}
 use Rattle.setups.specs.declared.setup.Guest.{Guest}
 use Rattle.setups.specs.declared.setup.Task.{Task}
-use Rattle.setups.specs.Demand.{server_demand, servers_demand, task_demand, server_task}
+use Rattle.setups.specs.Demand.{server_demand, servers_demand, server_supply, task_demand, server_task}
 use Rattle.setups.specs.Limits.{ServerOk}
 use Rattle.setups.proofs.Growth.{div-flat}
 use Rattle.setups.proofs.ServerTasks.{server_demand-as_task}
@@ -29,6 +30,23 @@ task_small t k ok =
       | no h ↦
           (let le : k.relative_deadline ≤ t = omega arith in
           rw (le-ltb t k.relative_deadline le) (task_small_at t k ok le))
+    ]
+
+-- what whole periods and the rest give is at most t
+pub server_supply-parts_small : (t p b : ℕ) → b ≤ p → (t - (p - b)) / p * b + ((t - (p - b)) % p - (p - b)) ≤ t
+server_supply-parts_small t p b within =
+    let u = t - (p - b) in
+    omega (arith, mul-le-mul_left (u / p) within, mod-add-div' u p)
+
+-- so Z is at most t, whatever t is
+pub server_supply-small : (t p b : ℕ) → b ≤ p → server_supply p b t ≤ t
+unfolding server_supply
+server_supply-small t p b within =
+    elim (dec_lt t (p - b)) [
+      | yes h ↦ rw (lt-ltb t (p - b) h) (omega arith)
+      | no h ↦
+          (let le : p - b ≤ t = omega arith in
+          rw (le-ltb t (p - b) le) (server_supply-parts_small t p b within))
     ]
 
 -- at most 16 tasks or servers need at most 16 times as much

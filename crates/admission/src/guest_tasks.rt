@@ -1,12 +1,13 @@
 //! Guests and their tasks, and which tasks and operations are whose.
-ghost use Rattle.std.specs.Prelude.{◌≡◌, ◌<◌, ◌≤◌, length, sum_by};
+ghost use Rattle.std.specs.Prelude.{◌≡◌, ◌+◌, ◌<◌, ◌≤◌, length};
 ghost use Rattle.std.specs.List.{All};
-ghost use Rattle.setups.specs.Plan.{cost_of, guest_at, task_start, operation_start, tasks_of};
+ghost use Rattle.setups.specs.declared.limits.TheConstants.{MOST_TASKS};
+ghost use Rattle.setups.specs.Plan.{guest_at, task_start, tasks_of};
 ghost use Rattle.setups.specs.Limits.{ServerOk, TaskOk, GuestsAndTasksAgree};
 
 use crate::task_set::TaskSet;
 use crate::workload::{PeriodicBudget, Workload};
-use setups::{Guest, Task, cost_total, task_total};
+use setups::{Guest, Task};
 
 // At most 16 guests of at most 8 tasks, and as many tasks as they count. A guest goes by its place, as a refusal names
 // it, and each function that takes one states the bound.
@@ -18,34 +19,16 @@ pub(crate) struct GuestTasks<'a> {
 }
 
 impl<'a> GuestTasks<'a> {
-    // The place of the first task of guest i.
-    #[tactic(auto, using(setups::proofs::GuestPlaces::starts), unfolding(setups::specs::Plan::task_start))]
-    fn task_start(&self, i: usize) -> usize
-        requires { i ≤ length self.now.guests.now }
-        ensures value { result ≡ task_start self.now.guests.now i }
-        ensures within { result ≤ length self.now.tasks.now }
+    // The tasks of guest i, from the place of its first on. A caller that goes from guest to guest knows the place, and is
+    // told where the next guest's begin, so no list is summed anew for each guest.
+    pub(crate) fn tasks_of(&self, i: usize, start: usize) -> &'a [Task]
+        requires guest { i < length self.now.guests.now }
+        requires start { start ≡ task_start self.now.guests.now i }
+        ensures tasks { result.now ≡ tasks_of self.now.guests.now self.now.tasks.now i }
+        ensures next { start + length result.now ≡ task_start self.now.guests.now (i + 1) }
+        ensures within { start + length result.now ≤ MOST_TASKS }
     {
-        task_total(&self.guests[..i]) as usize
-    }
-
-    // The tasks of guest i.
-    pub(crate) fn tasks_of(&self, i: usize) -> &'a [Task]
-        requires { i < length self.now.guests.now }
-        ensures { result.now ≡ tasks_of self.now.guests.now self.now.tasks.now i }
-    {
-        let start = self.task_start(i);
         &self.tasks[start..start + self.guests[i].task_count as usize]
-    }
-
-    // The place of the first operation of guest i.
-    #[tactic(auto, using(setups::proofs::GuestPlaces::starts), unfolding(setups::specs::Plan::operation_start))]
-    pub(crate) fn operation_start(&self, i: usize) -> usize
-        requires guest { i ≤ length self.now.guests.now }
-        requires costs { sum_by cost_of self.now.tasks.now ≤ usize.MAX }
-        ensures value { result ≡ operation_start self.now.guests.now self.now.tasks.now i }
-        ensures within { result ≤ sum_by cost_of self.now.tasks.now }
-    {
-        cost_total(&self.tasks[..self.task_start(i)]) as usize
     }
 }
 
@@ -67,16 +50,19 @@ impl<'a> SoundGuestTasks<'a> {
         }
     }
 
-    // The server and the tasks of guest i.
-    pub(crate) fn workload(&self, i: usize) -> Workload<'a>
-        requires { i < length self.now.guest_tasks.guests.now }
+    // The server and the tasks of guest i, from the place of its first task on.
+    pub(crate) fn workload(&self, i: usize, start: usize) -> Workload<'a>
+        requires guest { i < length self.now.guest_tasks.guests.now }
+        requires start { start ≡ task_start self.now.guest_tasks.guests.now i }
         ensures period { result.server.period ≡ (guest_at self.now.guest_tasks.guests.now i).period }
         ensures budget { result.server.budget ≡ (guest_at self.now.guest_tasks.guests.now i).budget }
         ensures tasks { result.tasks.now ≡ tasks_of self.now.guest_tasks.guests.now self.now.guest_tasks.tasks.now i }
+        ensures next { start + length result.tasks.now ≡ task_start self.now.guest_tasks.guests.now (i + 1) }
+        ensures within { start + length result.tasks.now ≤ MOST_TASKS }
     {
         Workload {
             server: PeriodicBudget::of(self.guest_tasks.guests[i]),
-            tasks: self.guest_tasks.tasks_of(i),
+            tasks: self.guest_tasks.tasks_of(i, start),
         }
     }
 }

@@ -1,8 +1,9 @@
 //! Admission: the exact verdict on a setup of the imaging link.
 #![tactic(auto)]
 
-ghost use Rattle.std.specs.Prelude.{IfOk};
+ghost use Rattle.std.specs.Prelude.{◌≡◌, IfOk};
 ghost use Rattle.decline.specs.Refusals.{by_numbers};
+ghost use Rattle.setups.specs.LimitNumbers.{LimitNumbers};
 ghost use Rattle.setups.specs.Plan.{plan_of, ValuesFit};
 ghost use Rattle.admission.specs.Verdict.{IsVerdict};
 ghost use Rattle.admission.specs.AdmissionLaws.{SupplyIsLeast, SupplyRepeats, LinkSearchBound, TasksSearchBound};
@@ -25,11 +26,12 @@ use limits::{
     check_windows,
 };
 use search::{check_guest_demands, check_guest_spares, check_link_demand, check_link_spare};
+use setups::limit_numbers;
 pub use setups::{Guest, Operation, Setup, Task};
 use supply::Table;
 pub use text::{Verdict, VerdictLine};
 
-// What the laws of admission say, for the contract of `judge`; there is nothing to do.
+// What the laws and the limits of admission say, for the contract of `judge`; there is nothing to do.
 fn admission_laws()
     ensures one { OneVerdict }
     ensures least { SupplyIsLeast }
@@ -37,7 +39,11 @@ fn admission_laws()
     ensures link { LinkSearchBound }
     ensures tasks { TasksSearchBound }
     ensures pauses { TasksSearchBoundByPauses }
-{}
+    ensures limits { LimitNumbers }
+    ensures factor { SEARCH_FACTOR ≡ 100 }
+{
+    limit_numbers();
+}
 
 /// The verdict on a setup for a device of so many registers: accepted, or the first rule that fails,
 /// at its first place.
@@ -50,6 +56,8 @@ pub fn judge(setup: &Setup<'_>, registers: u32) -> Result<(), Decline>
     ensures link_search_bound { LinkSearchBound }
     ensures tasks_search_bound { TasksSearchBound }
     ensures tasks_search_bound_by_pauses { TasksSearchBoundByPauses }
+    ensures limits { LimitNumbers }
+    ensures search_factor { SEARCH_FACTOR ≡ 100 }
 {
     admission_laws();
     check_sizes(setup, registers)?;

@@ -162,14 +162,17 @@ pub(crate) fn check_tasks(guest_tasks: &GuestTasks<'_>) -> Result<(), Decline>
         (All TaskOk guest_tasks.now.tasks.now)
         (TasksFault guest_tasks.now.guests.now guest_tasks.now.tasks.now) }
 {
+    let mut start = 0;
     // No list is indexed: a guest's tasks are found by its place, which the refusal tells too.
     for i in 0..guest_tasks.guests.len() {
-        if let Some(j) = guest_tasks.tasks_of(i).iter().position(|k| !task_ok(*k)) {
+        let tasks = guest_tasks.tasks_of(i, start);
+        if let Some(j) = tasks.iter().position(|k| !task_ok(*k)) {
             return Err(Decline::TaskLimits {
                 guest: i as u32 + 1,
                 task: j as u64 + 1,
             });
         }
+        start += tasks.len();
     }
     Ok(())
 }
@@ -215,15 +218,19 @@ pub(crate) fn check_operations(
         (OperationsFault guest_tasks.now.guests.now guest_tasks.now.tasks.now operations.now) }
     ensures values { IfOk result (λ _. All ValueFits operations.now) }
 {
+    let mut start = 0;
+    let mut from = 0;
     for (i, g) in guest_tasks.guests.iter().enumerate() {
-        let from = guest_tasks.operation_start(i);
-        let to = guest_tasks.operation_start(i + 1);
+        let tasks = guest_tasks.tasks_of(i, start);
+        let to = from + cost_total(tasks) as usize;
         if let Some(q) = operations[from..to].iter().position(|o| !inside(*g, *o)) {
             return Err(Decline::OperationRegister {
                 guest: i as u32 + 1,
                 position: (from + q) as u64 + 1,
             });
         }
+        start += tasks.len();
+        from = to;
     }
     Ok(())
 }

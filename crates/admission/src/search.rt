@@ -58,13 +58,16 @@ pub(crate) fn check_guest_spares(sound: &SoundGuestTasks<'_>) -> Result<(), Decl
         (GuestsHaveSpare sound.now.guest_tasks.guests.now sound.now.guest_tasks.tasks.now)
         (SparesFault sound.now.guest_tasks.guests.now sound.now.guest_tasks.tasks.now) }
 {
+    let mut start = 0;
     // With `position` over the places of the guests the proof did not close.
     for i in 0..sound.guest_tasks.guests.len() {
-        if !sound.workload(i).has_spare() {
+        let workload = sound.workload(i, start);
+        if !workload.has_spare() {
             return Err(Decline::GuestSpare {
                 guest: i as u32 + 1,
             });
         }
+        start += workload.tasks.len();
     }
     Ok(())
 }
@@ -76,14 +79,17 @@ pub(crate) fn check_guest_demands(sound: &SoundGuestTasks<'_>) -> Result<(), Dec
         (GuestsServed sound.now.guest_tasks.guests.now sound.now.guest_tasks.tasks.now)
         (GuestsFault sound.now.guest_tasks.guests.now sound.now.guest_tasks.tasks.now) }
 {
+    let mut start = 0;
     // No list is indexed: a guest's server and tasks are found by its place, which the refusal tells too.
     for i in 0..sound.guest_tasks.guests.len() {
-        if let Some(t) = sound.workload(i).first_short() {
+        let workload = sound.workload(i, start);
+        if let Some(t) = workload.first_short() {
             return Err(Decline::GuestDemand {
                 guest: i as u32 + 1,
                 window: u64::from(t),
             });
         }
+        start += workload.tasks.len();
     }
     Ok(())
 }

@@ -1,5 +1,5 @@
 //! A journal as text: what each block says, and the counts at the end.
-ghost use Rattle.std.specs.Prelude.{◌≡◌, ◌+◌, ◌^◌, ◌<◌, ◌≤◌, vec_len, Some, MatchOption, OnOk};
+ghost use Rattle.std.specs.Prelude.{◌≡◌, ◌+◌, ◌^◌, ◌<◌, ◌≤◌, Some, MatchOption, IfOk, OnOk};
 ghost use Rattle.journal.specs.WriteRead.{block_read_answer};
 ghost use Rattle.inspect.specs.Reports.{IsReport};
 ghost use Rattle.inspect.specs.BlockCounts.{PastCounting, count_block};
@@ -7,18 +7,21 @@ ghost use Rattle.inspect.specs.BlockCounts.{PastCounting, count_block};
 use crate::counts::Counts;
 use crate::report::BlockReport;
 use journal::{BLOCK_BYTES, Entry, Event, PLACES, read};
-use std::alloc::Global;
-use std::io::{self, Read, Write};
+use std::io::{self, ErrorKind, Read, Write};
 
-// Reads the next bytes of the input, as many as a block has where there are so many.
-fn next_block<R: Read>(input: &mut R, block: &mut Vec<u8>) -> io::Result<()>
-    ensures { OnOk result (vec_len block.new ≤ BLOCK_BYTES) }
+// Reads the next bytes of the input, as many as a block has where there are so many, and answers how many came: what is
+// left of the limit did not. No clause of the library bounds what is left, hence the saturation.
+fn next_block<R: Read>(input: &mut R, block: &mut [u8; BLOCK_BYTES]) -> io::Result<usize>
+    ensures { IfOk result (λ n. n ≤ BLOCK_BYTES) }
 {
-    block.clear();
-    input.by_ref().take(BLOCK_BYTES as u64).read_to_end(block)?;
-    // It changes nothing: no clause of the library says that a limited reader gives no more.
-    block.truncate(BLOCK_BYTES);
-    Ok(())
+    let mut part = input.by_ref().take(BLOCK_BYTES as u64);
+    match part.read_exact(block) {
+        Ok(()) => Ok(BLOCK_BYTES),
+        Err(e) if e.kind() == ErrorKind::UnexpectedEof => {
+            Ok(BLOCK_BYTES.saturating_sub(part.limit() as usize))
+        }
+        Err(e) => Err(e),
+    }
 }
 
 // Reads one block and counts it; the report of it, or none where a count would pass 64 bits. The report borrows from
@@ -58,21 +61,21 @@ fn list_block<W: Write>(
 // Prints the blocks of the input one after another; a rest shorter than a block is the last.
 fn list_blocks<R: Read, W: Write>(
     input: &mut R,
-    block: &mut Vec<u8>,
     counts: &mut Counts,
     out: &mut W,
 ) -> io::Result<()> {
+    let mut block = [0; BLOCK_BYTES];
     let mut places = [Entry {
         slot: 0,
         event: Event::Unassigned,
     }; PLACES];
     loop {
-        next_block(input, block)?;
-        if block.is_empty() {
+        let filled = next_block(input, &mut block)?;
+        if filled == 0 {
             return Ok(());
         }
-        list_block(block, &mut places, counts, out)?;
-        if block.len() < BLOCK_BYTES {
+        list_block(&block[..filled], &mut places, counts, out)?;
+        if filled < BLOCK_BYTES {
             return Ok(());
         }
     }
@@ -80,15 +83,9 @@ fn list_blocks<R: Read, W: Write>(
 
 // Prints a journal and its counts. Where the input cannot be read to its end,
 // the blocks before are printed and counted first.
-pub(crate) fn list<R: Read, W: Write>(
-    alloc: Global,
-    input: &mut R,
-    out: &mut W,
-) -> io::Result<Counts> {
-    // Room past the end of a block, so that reading one to its end never asks for more.
-    let mut block = Vec::with_capacity(alloc, 2 * BLOCK_BYTES)?;
+pub(crate) fn list<R: Read, W: Write>(input: &mut R, out: &mut W) -> io::Result<Counts> {
     let mut counts = Counts::new();
-    let end = list_blocks(input, &mut block, &mut counts, out);
+    let end = list_blocks(input, &mut counts, out);
     writeln!(out, "{counts}")?;
     out.flush()?;
     end?;

@@ -21,7 +21,7 @@ fn list_buffered<R: Read + Drop, W: Write + Drop>(
 ) -> io::Result<Counts> {
     let mut input = BufReader::new(alloc, input)?;
     let mut out = BufWriter::new(alloc, out)?;
-    list(alloc, &mut input, &mut out)
+    list(&mut input, &mut out)
 }
 
 // The status is 1 where a block was refused, which the listing says, and where input,

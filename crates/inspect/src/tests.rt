@@ -16,7 +16,7 @@ fn lists(
 ) -> Result<(), Fail> {
     let mut input = bytes;
     let mut out = Vec::new(heap);
-    assert_eq!(rt; list(heap, &mut input, &mut out)?, counts);
+    assert_eq!(rt; list(&mut input, &mut out)?, counts);
     assert!(rt; out.as_slice() == text.as_bytes());
     Ok(())
 }

@@ -1,3 +1,4 @@
+pub mod FormatNumbers
 pub mod Bytes
 pub mod Kind
 pub mod Entries

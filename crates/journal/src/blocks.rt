@@ -12,6 +12,7 @@ ghost use Rattle.journal.specs.WriteRead.{entries_answer, block_write_answer, bl
 ghost use Rattle.journal.specs.WriteRead.{read_sized};
 ghost use Rattle.journal.specs.WriteRead.{block_read_answer, places_left, places_after, ReadsBack, WritesBack};
 ghost use Rattle.journal.specs.WriteRead.{NeverWritten};
+ghost use Rattle.journal.specs.FormatNumbers.{FormatNumbers};
 
 use crate::entries::Entry;
 use crate::fields::Fields;
@@ -32,6 +33,11 @@ pub struct Heading {
 
 // The bytes of a block of the right size.
 type Block = [u8; BLOCK_BYTES];
+
+// What the numbers of the format are, for the contracts of `read` and `write`; there is nothing to do.
+fn format_numbers()
+    ensures { FormatNumbers }
+{}
 
 // The byte at which a place begins.
 fn place_start(e: usize) -> usize
@@ -186,7 +192,9 @@ pub fn read(block: &[u8], places: &mut [Entry]) -> Result<Heading, Decline>
     ensures bound { IfOk result (λ h. h.count ≤ length places.old) }
     ensures writes_back { IfOk result (λ h. WritesBack h places.new block.now) }
     ensures never_written { OnErr result (read_sized block.now places.old ≡ true → NeverWritten block.now) }
+    ensures numbers { FormatNumbers }
 {
+    format_numbers();
     // One refusal stands for both lengths, so they are tested together, and each is an array from then on.
     if block.len() != BLOCK_BYTES || places.len() != PLACES {
         return Err(Decline::BlockSize);
@@ -280,7 +288,9 @@ pub fn write(number: u32, entries: &[Entry], block: &mut [u8]) -> Result<(), Dec
     ensures answer { by_numbers result ≡ block_write_answer entries.now block.old }
     ensures after { block.new ≡ block_after number entries.now block.old }
     ensures reads_back { OnOk result (ReadsBack number entries.now block.new) }
+    ensures numbers { FormatNumbers }
 {
+    format_numbers();
     if block.len() != BLOCK_BYTES || entries.is_empty() || entries.len() > PLACES {
         return Err(Decline::BlockSize);
     }

@@ -1,3 +1,4 @@
+pub mod LimitNumbers
 pub mod Plan
 pub mod Supply
 pub mod Demand

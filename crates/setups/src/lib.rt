@@ -10,7 +10,7 @@ pub use arrays::array_with;
 pub use limits::{
     HIGHEST_COST, LONGEST_PERIOD, LONGEST_SEPARATION, MOST_FIXED_OPERATIONS, MOST_GUEST_TASKS,
     MOST_GUESTS, MOST_OPERATIONS, MOST_REGISTERS, MOST_SLOTS, MOST_TABLE_BYTES, MOST_TASKS, SPARE,
-    WHOLE,
+    WHOLE, limit_numbers,
 };
 pub use setup::{Guest, Operation, Setup, Task};
 pub use totals::{cost_total, task_total};

@@ -1,4 +1,5 @@
 //! The limits that a setup keeps, and the spare that it leaves.
+ghost use Rattle.setups.specs.LimitNumbers.{LimitNumbers};
 
 /// The most registers of a device: as many as a number of 8 bits tells apart.
 pub const MOST_REGISTERS: u32 = 256;
@@ -41,3 +42,8 @@ pub const WHOLE: u32 = 1_000_000;
 
 /// The share that has to be left to spare, a hundredth of the whole, in millionths.
 pub const SPARE: u32 = 10_000;
+
+/// Says what the numbers of the limits are, for contracts that go by their names; there is nothing to do.
+pub fn limit_numbers()
+    ensures { LimitNumbers }
+{}

@@ -1,3 +1,4 @@
+use Rattle.std.proofs.Common.{refl}
 use Rattle.setups.proofs.SlotWindows.{supply_least, supply_law}
 use Rattle.admission.specs.AdmissionLaws.{SupplyIsLeast, SupplyRepeats}
 use Rattle.admission.proofs.SearchBounds.{link_search_bound, tasks_search_bound, tasks_search_bound_by_pauses}
@@ -13,4 +14,6 @@ returns c = record {
   link = link_search_bound;
   tasks = tasks_search_bound;
   pauses = tasks_search_bound_by_pauses;
+  limits = c.limit_numbers.ensures;
+  factor = refl;
 }

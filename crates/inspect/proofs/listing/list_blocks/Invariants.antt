@@ -1,5 +1,5 @@
 use Rattle.std.proofs.Common.{◌-◌, ◌^◌}
 use Rattle.inspect.proofs.listing.list_blocks.Given as goal
 
-abbrev pub decreases-loop-block : goal.decreases-loop-block
-decreases-loop-block g l = 2 ^ 64 - l.counts.blocks
+abbrev pub decreases-loop-filled : goal.decreases-loop-filled
+decreases-loop-filled g l = 2 ^ 64 - l.counts.blocks
